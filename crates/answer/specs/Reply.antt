@@ -1,0 +1,37 @@
+-- The table of refusals (the paper's slips), and what an answer says in numbers.
+use Prim.Native.Nat.{ℕ}
+use Rattle.answer.specs.declared.Refusal.{Refusal}
+use Rattle.answer.specs.declared.Refusal.the-variants.{ZeroSeed, HeapLength, MetadataLength, MalformedRequest, UnsupportedSize, ClassTooSmall, ClassAtCapacity, OutOfRange, NotASlotStart, NotAllocated, InvalidVote, NoAgreement}
+use Rattle.answer.specs.declared.Answer.{Answer}
+use Rattle.answer.specs.declared.Answer.the-variants.{Served, Refused}
+
+-- each refusal's number in the paper, whose words are: dead seed, wrong area, wrong book, spoilt ticket, no such size, closed class,
+-- half full, off the area, no start, not live, bad ballot, no two alike
+abbrev pub numberOf : Refusal → ℕ
+numberOf ZeroSeed = 1
+numberOf HeapLength = 2
+numberOf MetadataLength = 3
+numberOf MalformedRequest = 4
+numberOf UnsupportedSize = 5
+numberOf ClassTooSmall = 6
+numberOf ClassAtCapacity = 7
+numberOf OutOfRange = 8
+numberOf NotASlotStart = 9
+numberOf NotAllocated = 10
+numberOf InvalidVote = 11
+numberOf NoAgreement = 12
+
+-- an answer as the paper gives it: the refusal's number, 0 where it is served, and the value, 0 where it is refused
+pub record Reply : Type 0 where
+  pub number : ℕ
+  pub value : ℕ
+
+abbrev pub served : ℕ → Reply
+served v = record { number = 0; value = v }
+
+abbrev pub refusedBy : Refusal → Reply
+refusedBy r = record { number = numberOf r; value = 0 }
+
+abbrev pub replyOf : Answer → Reply
+replyOf (Served v) = served v
+replyOf (Refused r) = refusedBy r

@@ -1,0 +1,52 @@
+-- A byte's bits: setting one, clearing one, counting the lowest.
+use mathlib.Core.Path.{_≡_, sym, ap, _∙_}
+use Prim.Native.Nat.{ℕ, zero, suc, _+_, _-_, _*_, _/_, _%_, _^_, _<_}
+use native.Mathlib.Nat.{zero-mul, sub-zero, mod-one}
+use native.Mathlib.Numerals.{add-one, one-add}
+use native.Mathlib.Omega.{arith}
+use lib.Bits.{bitAnd, bitOr, bitXor, and-high, or-add-and, xor-add-and, xor-zero-r}
+use lib.Pow.{high-ones, shl-exact, shr-shr, field, mod-mod-pow}
+use lib.Count.{onesIn, ones, ones-step}
+
+-- a bit shifted to its place in a byte
+pub weight : (d k : ℕ) → d < 2 → k < 8 → d * 2 ^ k % 256 ≡ d * 2 ^ k
+weight d k h l = shl-exact 1 k 8 h (omega arith)
+
+-- `or` with the weight p adds it where x does not have it, `xor` takes it off where x has it
+module _ (x p : ℕ) where
+  or-bit : (d : ℕ) → d < 2 → bitAnd x (1 * p) ≡ d * p → bitOr x (1 * p) ≡ x + (1 - d) * p
+  or-bit zero h e = omega (arith, or-add-and x (1 * p))
+  or-bit (suc zero) h e = omega (arith, or-add-and x (1 * p))
+  or-bit (suc (suc d)) h e = omega arith
+
+  xor-bit : (d : ℕ) → d < 2 → bitAnd x (1 * p) ≡ d * p → bitXor x (d * p) ≡ x - d * p
+  xor-bit zero h e = rw (zero-mul, sub-zero) (xor-zero-r x)
+  xor-bit (suc zero) h e = omega (arith, xor-add-and x (1 * p))
+  xor-bit (suc (suc d)) h e = omega arith
+
+module _ (x k : ℕ) where
+  -- what x has of bit k's weight
+  and-bit : bitAnd x (1 * 2 ^ k) ≡ x / 2 ^ k % 2 * 2 ^ k
+  and-bit = ap (bitAnd x) (sym (high-ones 1 k)) ∙ and-high x 1 k
+
+  -- bit k made set, and made clear
+  pub set-bit : k < 8 → bitOr x (1 * 2 ^ k % 256) ≡ x + (1 - x / 2 ^ k % 2) * 2 ^ k
+  set-bit h = ap (bitOr x) (weight 1 k (omega arith) h) ∙ or-bit x (2 ^ k) _ (omega arith) and-bit
+
+  pub clear-bit : k < 8 → bitXor x (x / 2 ^ k % 2 * 2 ^ k % 256) ≡ x - x / 2 ^ k % 2 * 2 ^ k
+  clear-bit h = ap (bitXor x) (weight _ k (omega arith) h) ∙ xor-bit x (2 ^ k) _ (omega arith) and-bit
+
+-- one more bit is one more to count
+pub ones-more : (r x : ℕ) → onesIn (suc r) x ≡ onesIn r x + x / 2 ^ r % 2
+unfolding onesIn
+ones-more zero x = omega arith
+ones-more (suc r) x =
+    let rest : onesIn (suc r) (x / 2) ≡ onesIn r (x / 2) + x / 2 ^ suc r % 2 = rw (shr-shr x 1 r, one-add) at (ones-more r (x / 2)) in
+    omega arith
+
+-- the r lowest bits are those of the remainder by 2 ^ r
+pub ones-mod : (r x : ℕ) → ones (x % 2 ^ r) ≡ onesIn r x
+unfolding ones onesIn
+ones-mod zero x = rw mod-one
+ones-mod (suc r) x =
+    ones-step (x % 2 ^ suc r) ∙ rw (← add-one r, mod-mod-pow x r 1, field x r 1, ones-mod r (x / 2))

@@ -1,0 +1,4 @@
+pub mod Byte
+pub mod Slot
+pub mod Walk
+pub mod Counted

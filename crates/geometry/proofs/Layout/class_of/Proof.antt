@@ -1,0 +1,54 @@
+use Prim.Native.Nat.{_-_, _≤_}
+use mathlib.Core.Path.{_≡_, refl}
+use native.Mathlib.Omega.{arith}
+use Rattle.search.specs.First.{first}
+use Rattle.geometry.specs.Layout.{classes, classOf}
+use Rattle.geometry.proofs.Geometry.{holds, class-found, class-past, class-none}
+use Rattle.geometry.proofs.Layout.class_of.Statement.{statement}
+use Rattle.geometry.proofs.Layout.class_of.Tie as tie
+
+-- what is left of the search finds what the whole one finds
+abbrev Inv-loop : tie.InvT-loop
+Inv-loop self size class₀ class = (class ≤ classes) × (classOf self size ≡ first (holds self size) class (classes - class))
+
+abbrev μ-loop : tie.MeasureT-loop
+μ-loop self size class₀ class = classes - class
+
+loop-holds : tie.Need-loop-holds Inv-loop μ-loop
+loop-holds c = (omega arith, refl)
+
+wide-requires : tie.Need-wide-requires Inv-loop μ-loop
+wide-requires c κs = tt
+
+slot-size-requires : tie.Need-slot-size-requires Inv-loop μ-loop
+slot-size-requires c κs = tt
+
+returns : tie.Need-returns Inv-loop μ-loop
+returns c = class-found _ _ (c .before .before .before .before .loop .inv .1) (omega arith) (omega arith)
+
+add-class : tie.Need-add-class Inv-loop μ-loop
+add-class c = omega arith
+
+loop-less : tie.Need-loop-less Inv-loop μ-loop
+loop-less c = omega arith
+
+loop-again : tie.Need-loop-again Inv-loop μ-loop
+loop-again c = (omega arith, class-past _ _ (c .before .before .before .before .loop .inv .1) (omega arith) (omega arith))
+
+returns-2 : tie.Need-returns-2 Inv-loop μ-loop
+returns-2 c = class-none _ _ (c .before .loop .inv .1) (omega arith)
+
+pub class-of-spec : {M : Type 1} → statement M
+class-of-spec =
+    tie.close
+    (tie.spec
+    Inv-loop
+    μ-loop
+    loop-holds
+    wide-requires
+    slot-size-requires
+    returns
+    add-class
+    loop-less
+    loop-again
+    returns-2)

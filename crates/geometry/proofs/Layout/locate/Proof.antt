@@ -1,0 +1,44 @@
+use borrow.Author.Needs.{needs}
+use Rattle.geometry.proofs.Layout.locate.Statement.{statement}
+use Rattle.geometry.proofs.Layout.locate.Tie as tie
+
+wide-requires : tie.Need-wide-requires
+wide-requires c κs = search needs
+
+wide-requires-2 : tie.Need-wide-requires-2
+wide-requires-2 c κs = search needs
+
+quotient-requires : tie.Need-quotient-requires
+quotient-requires c κs = search needs
+
+wide-requires-3 : tie.Need-wide-requires-3
+wide-requires-3 c κs = search needs
+
+remainder-requires : tie.Need-remainder-requires
+remainder-requires c κs = search needs
+
+slot-size-requires : tie.Need-slot-size-requires
+slot-size-requires c κs = search needs
+
+quotient-requires-2 : tie.Need-quotient-requires-2
+quotient-requires-2 c κs = search needs
+
+remainder-requires-2 : tie.Need-remainder-requires-2
+remainder-requires-2 c κs = search needs
+
+returns : tie.Need-returns
+returns c = cc
+
+pub locate-spec : {M : Type 1} → statement M
+locate-spec =
+    tie.close
+    (tie.spec
+    wide-requires
+    wide-requires-2
+    quotient-requires
+    wide-requires-3
+    remainder-requires
+    slot-size-requires
+    quotient-requires-2
+    remainder-requires-2
+    returns)

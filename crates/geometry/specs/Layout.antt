@@ -1,0 +1,67 @@
+-- The heap (the paper's area), its size classes and regions, and where the metadata (the paper's book) keeps each class's bitmap.
+-- No rule here needs a slot size or a region length to be a power of two.
+use Prim.Native.Nat.{ℕ, zero, suc, _+_, _*_, _/_, _%_, _^_}
+use mathlib.Core.Bool.{Bool, true, false, cond}
+use lib.Dec.{leb, ltb, eqb}
+use Rattle.search.specs.First.{first}
+use Rattle.geometry.specs.declared.Layout.{Layout}
+use Rattle.geometry.specs.declared.Location.{Location}
+
+-- size classes, and regions
+abbrev pub classes : ℕ
+classes = 12
+
+-- ---- the heap
+
+-- the region length that makes a heap of n bytes, a power of two from 1,024 to 1,048,576; 0 where there is none
+abbrev pub regionOf : ℕ → ℕ
+regionOf n =
+    let exponent : ℕ = first (λ e. eqb n (classes * 2 ^ e)) 10 11 in
+    cond (ltb exponent 21) (2 ^ exponent) 0
+
+abbrev pub layoutOf : ℕ → Layout
+layoutOf n = record { region = regionOf n }
+
+abbrev pub heapLength : Layout → ℕ
+heapLength G = classes * G .region
+
+-- ---- the classes
+
+-- the bytes of a slot; 0 past the last class
+unfoldable pub slotSize : Layout → ℕ → ℕ
+slotSize G c = elim (ltb c classes) [ true ↦ 8 * 2 ^ c | false ↦ 0 ]
+
+-- the paper's N
+abbrev pub slots : Layout → ℕ → ℕ
+slots G c = G .region / slotSize G c
+
+-- the class of a size: the first whose slots hold it; `classes` where none does
+abbrev pub classOf : Layout → ℕ → ℕ
+classOf G size = first (λ c. leb size (slotSize G c)) 0 classes
+
+-- where a slot starts, in the heap
+abbrev pub slotStart : Layout → ℕ → ℕ → ℕ
+slotStart G c i = c * G .region + i * slotSize G c
+
+-- the class and the slot in whose bytes an offset lies, and how far it lies into the slot
+abbrev pub locate : Layout → ℕ → Location
+locate G offset =
+    let size : ℕ = slotSize G (offset / G .region) in
+    record { class = offset / G .region; slot = offset % G .region / size; into = offset % G .region % size }
+
+-- ---- the metadata
+
+-- the length of the fields before the bitmaps
+abbrev pub header : ℕ
+header = 8
+
+abbrev pub bitmapLength : Layout → ℕ → ℕ
+bitmapLength G c = (slots G c + 7) / 8
+
+-- where a class's bitmap starts: after the fields and the bitmaps of the classes before it
+unfoldable pub bitmapAt : Layout → ℕ → ℕ
+bitmapAt G zero = header
+bitmapAt G (suc c) = bitmapAt G c + bitmapLength G c
+
+abbrev pub metadataLength : Layout → ℕ
+metadataLength G = bitmapAt G classes

@@ -1,0 +1,148 @@
+// Where things lie: the regions and slots of a heap, and the bitmaps of its metadata.
+ghost use mathlib.Core.Path.{_≡_};
+ghost use Prim.Native.Nat.{suc, min, _/_, _%_, _^_, _<_, _≤_};
+ghost use Rattle.geometry.specs.Layout.{classes, layoutOf, slotSize, slots, classOf, locate, bitmapLength, bitmapAt, metadataLength};
+
+pub const CLASSES: usize = 12;
+
+// The length of the metadata's fields before the bitmaps.
+const HEADER: usize = 8;
+
+// How a heap is laid out. A region length of 0 stands for no heap: it has no slots.
+pub struct Layout {
+    pub region: u32,
+}
+
+// The class and the slot in whose bytes an offset lies, and how far it lies into the slot.
+pub struct Location {
+    pub class: usize,
+    pub slot: usize,
+    pub into: usize,
+}
+
+fn wide(x: u32) -> usize
+    ensures { λ r. ⌜ (r ≡ x) × (r < 4294967296) ⌝ }
+{
+    x as usize
+}
+
+// a / b as the definitions have it: 0 where b is.
+fn quotient(a: usize, b: usize) -> usize
+    ensures { λ r. ⌜ (r ≡ a / b) × (r ≤ a) ⌝ }
+{
+    if b == 0 { 0 } else { a / b }
+}
+
+// a % b as the definitions have it: a where b is 0.
+fn remainder(a: usize, b: usize) -> usize
+    ensures { λ r. ⌜ r ≡ a % b ⌝ }
+{
+    if b == 0 { a } else { a % b }
+}
+
+// A power of two that a region length can be.
+fn power(exponent: u32) -> u32
+    requires { ⌜ exponent < 21 ⌝ }
+    ensures { λ r. ⌜ (r ≡ 2 ^ exponent) × (r ≤ 1048576) ⌝ }
+{
+    1 << exponent
+}
+
+// A number of classes, at most all of them: the classes past the last have no bitmap.
+fn at_most_all(class: usize) -> usize
+    ensures { λ r. ⌜ r ≡ min class classes ⌝ }
+{
+    if class < CLASSES { class } else { CLASSES }
+}
+
+impl Layout {
+    // The layout of a heap of this length; its region length is 0 where the length is not allowed.
+    pub fn of(heap_len: usize) -> Layout
+        ensures { λ r. ⌜ r ≡ layoutOf «heap_len» ⌝ }
+    {
+        let mut exponent: u32 = 10;
+        while exponent < 21 {
+            let region = power(exponent);
+            if heap_len == CLASSES * wide(region) {
+                return Layout { region };
+            }
+            exponent += 1;
+        }
+        Layout { region: 0 }
+    }
+
+    // The bytes of a slot; 0 past the last class.
+    pub fn slot_size(self, class: usize) -> usize
+        ensures { λ r. ⌜ r ≡ slotSize self class ⌝ }
+    {
+        if class < CLASSES { 8 << class } else { 0 }
+    }
+
+    pub fn slots(self, class: usize) -> usize
+        ensures { λ r. ⌜ (r ≡ slots self class) × (r < 4294967296) ⌝ }
+    {
+        quotient(wide(self.region), self.slot_size(class))
+    }
+
+    // The class of a size; CLASSES where no slot is large enough.
+    pub fn class_of(self, size: u32) -> usize
+        ensures { λ r. ⌜ r ≡ classOf self size ⌝ }
+    {
+        let mut class = 0;
+        while class < CLASSES {
+            if wide(size) <= self.slot_size(class) {
+                return class;
+            }
+            class += 1;
+        }
+        class
+    }
+
+    pub fn locate(self, offset: u32) -> Location
+        ensures { λ r. ⌜ r ≡ locate self offset ⌝ }
+    {
+        let region = wide(self.region);
+        let class = quotient(wide(offset), region);
+        let within = remainder(wide(offset), region);
+        let size = self.slot_size(class);
+        Location {
+            class,
+            slot: quotient(within, size),
+            into: remainder(within, size),
+        }
+    }
+
+    // The bytes of a class's bitmap.
+    fn bitmap_length(self, class: usize) -> usize
+        ensures { λ r. ⌜ (r ≡ bitmapLength self class) × (r ≤ 536870912) ⌝ }
+    {
+        (self.slots(class) + 7) / 8
+    }
+
+    // Where a class's bitmap starts in the metadata.
+    pub fn bitmap_start(self, class: usize) -> usize
+        ensures { λ r. ⌜ r ≡ bitmapAt self class ⌝ }
+    {
+        let last = at_most_all(class);
+        let mut at = HEADER;
+        let mut passed = 0;
+        while passed < last {
+            at += self.bitmap_length(passed);
+            passed += 1;
+        }
+        at
+    }
+
+    // Where a class's bitmap ends: where the next one starts.
+    pub fn bitmap_end(self, class: usize) -> usize
+        ensures { λ r. ⌜ r ≡ bitmapAt self (suc class) ⌝ }
+    {
+        self.bitmap_start(at_most_all(class) + 1)
+    }
+
+    pub fn metadata_length(self) -> usize
+        ensures { λ r. ⌜ r ≡ metadataLength self ⌝ }
+    {
+        self.bitmap_start(CLASSES)
+    }
+}

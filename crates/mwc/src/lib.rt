@@ -1,0 +1,36 @@
+// Marsaglia's multiply-with-carry pair: two 32-bit halves and the number that they draw.
+ghost use mathlib.Core.Path.{_≡_};
+ghost use Prim.Native.Nat.{_<_};
+ghost use Rattle.mwc.specs.Draw.{step, next, drawn};
+
+pub struct Generator {
+    pub z: u32,
+    pub w: u32,
+}
+
+// One half's next value. A multiplier of 16 bits keeps it within 32.
+fn step_half(multiplier: u32, x: u32) -> u32
+    requires { ⌜ multiplier < 65536 ⌝ }
+    ensures { λ r. ⌜ r ≡ step multiplier x ⌝ }
+{
+    multiplier * (x % 65536) + x / 65536
+}
+
+impl Generator {
+    // Both halves after a draw.
+    pub fn advance(self) -> Generator
+        ensures { λ r. ⌜ r ≡ next self ⌝ }
+    {
+        Generator {
+            z: step_half(36969, self.z),
+            w: step_half(18000, self.w),
+        }
+    }
+
+    // What is drawn, from the halves after the draw. 65,536 times z keeps only z's low 16 bits.
+    pub fn draw(self) -> u32
+        ensures { λ r. ⌜ r ≡ drawn self ⌝ }
+    {
+        std::num::wrapping_add_u32(self.z % 65536 * 65536, self.w)
+    }
+}
