@@ -7,7 +7,9 @@ use lib.Dec.{eqb}
 use Rattle.geometry.specs.declared.Layout.{Layout}
 use Rattle.geometry.specs.Layout.{layoutOf, metadataLength}
 use Rattle.request.specs.declared.Request.{Request}
-use Rattle.request.specs.declared.Request.the-variants.{Allocate, Free, Remaining, CopyBytes, CopyString, CopyPadded, Malformed}
+use Rattle.request.specs.declared.Request.the-variants.{Allocate, Free, Remaining, CopyBytes, CopyString, CopyPadded}
+use Rattle.request.specs.declared.Parsed.{Parsed}
+use Rattle.request.specs.declared.Parsed.the-variants.{Whole, Malformed}
 use Rattle.request.specs.Parse.{parse}
 use Rattle.answer.specs.declared.Refusal.the-variants.{HeapLength, MetadataLength, MalformedRequest}
 use Rattle.heap.specs.Outcome.{Outcome, refused}
@@ -21,11 +23,15 @@ perform G m source (Remaining offset) = remaining G m offset
 perform G m source (CopyBytes offset) = copy G m offset source
 perform G m source (CopyString offset) = copy G m offset (string source)
 perform G m source (CopyPadded offset count) = copy G m offset (padded source count)
-perform G m source Malformed = refused MalformedRequest
+
+-- a request that was read, or refused
+abbrev pub act : Layout → List ℕ → List ℕ → Parsed → Outcome
+act G m source (Whole request) = perform G m source request
+act G m source Malformed = refused MalformedRequest
 
 -- by the heap's length, the metadata, the request's bytes and the source
 unfoldable pub serve : ℕ → List ℕ → List ℕ → List ℕ → Outcome
 serve heapBytes m request source =
     let G : Layout = layoutOf heapBytes in
     cond (eqb (G .region) 0) (refused HeapLength)
-    (cond (not (eqb (length m) (metadataLength G))) (refused MetadataLength) (perform G m source (parse request)))
+    (cond (not (eqb (length m) (metadataLength G))) (refused MetadataLength) (act G m source (parse request)))

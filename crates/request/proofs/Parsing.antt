@@ -8,8 +8,7 @@ use borrow.Author.Tests.{eq-eqb, ne-eqb}
 use lib.ListN.{length, take, drop, length-drop}
 use lib.Seq.{take-all}
 use Rattle.words.specs.Word.{wordOf}
-use Rattle.request.specs.declared.Request.{Request}
-use Rattle.request.specs.declared.Request.the-variants.{Malformed}
+use Rattle.request.specs.declared.Parsed.the-variants.{Malformed}
 use Rattle.request.specs.Parse.{operation, countAllowed, parse}
 
 abbrev from : List ℕ → ℕ → List ℕ

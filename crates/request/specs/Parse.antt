@@ -1,27 +1,29 @@
 -- Requests from any bytes (the paper's tickets). Sixteen bytes are four words: the operation, its size or offset, its count, and zero; an
 -- operation is below 256, so its word is its byte with three zero bytes.
 use Prim.Native.Nat.{ℕ}
-use mathlib.Core.List.{List, [], _∷_}
+use mathlib.Core.List.{List, [], _∷_, map}
 use mathlib.Core.Bool.{Bool, _&&_, _||_, cond}
 use lib.ListN.{length, getD, drop}
 use lib.Dec.{eqb}
 use Rattle.words.specs.Word.{wordOf}
 use Rattle.request.specs.declared.Request.{Request}
-use Rattle.request.specs.declared.Request.the-variants.{Allocate, Free, Remaining, CopyBytes, CopyString, CopyPadded, Malformed}
+use Rattle.request.specs.declared.Request.the-variants.{Allocate, Free, Remaining, CopyBytes, CopyString, CopyPadded}
+use Rattle.request.specs.declared.Parsed.{Parsed}
+use Rattle.request.specs.declared.Parsed.the-variants.{Whole, Malformed}
 
 -- in the order of their numbers; the paper's place, free, measure, plain copy, text copy and counted copy
 abbrev pub operations : ℕ → ℕ → List Request
 operations argument count =
     Allocate argument ∷ Free argument ∷ Remaining argument ∷ CopyBytes argument ∷ CopyString argument ∷ CopyPadded argument count ∷ []
 
-abbrev pub operation : ℕ → ℕ → ℕ → Request
-operation code argument count = getD (operations argument count) code Malformed
+abbrev pub operation : ℕ → ℕ → ℕ → Parsed
+operation code argument count = getD (map Whole (operations argument count)) code Malformed
 
 -- only operation 5 has a count
 abbrev pub countAllowed : ℕ → ℕ → Bool
 countAllowed code count = eqb count 0 || eqb code 5
 
-unfoldable pub parse : List ℕ → Request
+unfoldable pub parse : List ℕ → Parsed
 parse b =
     let code : ℕ = wordOf b in
     let count : ℕ = wordOf (drop 8 b) in

@@ -9,20 +9,24 @@ pub enum Request {
     CopyBytes(u32),
     CopyString(u32),
     CopyPadded(u32, u32),
+}
+
+pub enum Parsed {
+    Whole(Request),
     Malformed,
 }
 
-fn of_operation(code: u32, argument: u32, count: u32) -> Request
+fn of_operation(code: u32, argument: u32, count: u32) -> Parsed
     ensures { λ r. ⌜ r ≡ operation code argument count ⌝ }
 {
     match code {
-        0 => Request::Allocate(argument),
-        1 => Request::Free(argument),
-        2 => Request::Remaining(argument),
-        3 => Request::CopyBytes(argument),
-        4 => Request::CopyString(argument),
-        5 => Request::CopyPadded(argument, count),
-        _ => Request::Malformed,
+        0 => Parsed::Whole(Request::Allocate(argument)),
+        1 => Parsed::Whole(Request::Free(argument)),
+        2 => Parsed::Whole(Request::Remaining(argument)),
+        3 => Parsed::Whole(Request::CopyBytes(argument)),
+        4 => Parsed::Whole(Request::CopyString(argument)),
+        5 => Parsed::Whole(Request::CopyPadded(argument, count)),
+        _ => Parsed::Malformed,
     }
 }
 
@@ -32,20 +36,20 @@ fn count_allowed(code: u32, count: u32) -> bool
     if count == 0 { true } else { code == 5 }
 }
 
-// The request that any bytes make.
-pub fn read(bytes: &[u8]) -> Request
+// What any bytes come to.
+pub fn read(bytes: &[u8]) -> Parsed
     ensures { λ r. ⌜ r ≡ parse (now (bytes .entry)) ⌝ }
 {
     if bytes.len() != 16 {
-        return Request::Malformed;
+        return Parsed::Malformed;
     }
     if words::get(&bytes[12..]) != 0 {
-        return Request::Malformed;
+        return Parsed::Malformed;
     }
     let code = words::get(bytes);
     let count = words::get(&bytes[8..]);
     if !count_allowed(code, count) {
-        return Request::Malformed;
+        return Parsed::Malformed;
     }
     of_operation(code, words::get(&bytes[4..]), count)
 }

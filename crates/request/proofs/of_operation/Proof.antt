@@ -1,8 +1,9 @@
 use Prim.Native.Nat.{_≤_}
 use mathlib.Core.Path.{sym}
+use mathlib.Core.List.{map}
 use native.Mathlib.Omega.{arith}
 use lib.ListN.{List·getD-eq-default}
-use Rattle.request.specs.declared.Request.the-variants.{Malformed}
+use Rattle.request.specs.declared.Parsed.the-variants.{Whole, Malformed}
 use Rattle.request.specs.Parse.{operations}
 use Rattle.request.proofs.of_operation.Statement.{statement}
 use Rattle.request.proofs.of_operation.Tie as tie
@@ -28,7 +29,7 @@ returns-6 c = rw (c .match .keys6)
 returns-7 : tie.Need-returns-7
 returns-7 c =
     let above : 6 ≤ c .before .args .code = omega arith in
-    sym (List·getD-eq-default (operations (c .before .args .argument) (c .before .args .count)) Malformed above)
+    sym (List·getD-eq-default (map Whole (operations (c .before .args .argument) (c .before .args .count))) Malformed above)
 
 pub of-operation-spec : {M : Type 1} → statement M
 of-operation-spec =

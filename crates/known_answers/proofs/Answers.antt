@@ -1,0 +1,45 @@
+-- The whole table holds: one test, computed over all its rows, and one law that turns it into the equation of each.
+use Prim.Native.Nat.{ℕ, zero, suc, _<_}
+use mathlib.Core.Path.{_≡_, refl}
+use mathlib.Core.Bool.{Bool, true, false, false≢true, _&&_}
+use mathlib.Core.List.{List, [], _∷_}
+use native.Mathlib.Nat.{not-suc-le-zero, le-of-suc-le-suc}
+use lib.ListN.{length, getD}
+use Rattle.bytes.specs.Bytes.{indexOf, indexAfter}
+use Rattle.search.specs.First.{first}
+use Rattle.geometry.specs.Layout.{slotSize, bitmapAt}
+use Rattle.bitmap.specs.Bitmap.{putByte, countSet, nextClear}
+use Rattle.request.specs.Parse.{parse}
+use Rattle.heap.specs.Allocate.{probe, allocate}
+use Rattle.heap.specs.Object.{free, space, remaining, copy}
+use Rattle.heap.specs.Serve.{serve}
+use Rattle.vote.specs.Decide.{alike, tabulate, digits, leader, count, decide}
+use Rattle.vote.proofs.Blocks.{alike-equal}
+use Rattle.known_answers.specs.Table.{Row, table, start, request, outcomeOf, after, oneObject, numbers, copying, voting, row}
+
+-- the two sides of each row are the same numbers
+allAlike : List Row → Bool
+allAlike [] = true
+allAlike (r ∷ rows) = alike (r .computed) (r .expected) && allAlike rows
+
+both : (a b : Bool) → a && b ≡ true → (a ≡ true) × (b ≡ true)
+both true b e = (refl, e)
+both false b e = absurd (false≢true e)
+
+abbrev pub nothing : Row
+nothing = record { computed = []; expected = [] }
+
+-- the test at a whole table gives the equation of each row
+each : (rows : List Row) → allAlike rows ≡ true → (i : ℕ) → i < length rows → getD rows i nothing .computed ≡ getD rows i nothing .expected
+unfolding allAlike
+each [] e i h = absurd (not-suc-le-zero h)
+each (r ∷ rows) e zero h = alike-equal (r .computed) (r .expected) (both (alike (r .computed) (r .expected)) (allAlike rows) e .0)
+each (r ∷ rows) e (suc i) h = each rows (both (alike (r .computed) (r .expected)) (allAlike rows) e .1) i (le-of-suc-le-suc h)
+
+computes : allAlike table ≡ true
+unfolding allAlike table start request outcomeOf after oneObject numbers copying voting row indexOf indexAfter first slotSize bitmapAt putByte countSet nextClear parse probe allocate free space remaining copy serve alike tabulate digits leader count decide
+computes = refl
+
+-- each of the twelve worked examples holds of the definitions
+pub worked-examples : (i : ℕ) → i < length table → getD table i nothing .computed ≡ getD table i nothing .expected
+worked-examples = each table computes

@@ -1,0 +1,5 @@
+pub mod Blocks
+pub mod Decision
+pub mod Lowest
+pub mod Tables
+pub mod Winner

@@ -1,0 +1,113 @@
+-- The vote of replicas on a block of output.
+use Prim.Native.Nat.{ℕ, zero, suc, _+_, _*_, _/_, _%_, _^_}
+use mathlib.Core.Path.{_≡_}
+use mathlib.Core.Bool.{Bool, true, false, not, cond, _&&_, _||_}
+use mathlib.Core.List.{List, [], _∷_, _++_}
+use lib.ListN.{length, getD, take, drop}
+use lib.Dec.{ltb, eqb}
+use Rattle.answer.specs.declared.Refusal.{Refusal}
+use Rattle.answer.specs.declared.Refusal.the-variants.{InvalidVote, NoAgreement}
+use Rattle.answer.specs.Reply.{numberOf}
+use Rattle.vote.specs.declared.Verdict.{Verdict}
+use Rattle.vote.specs.declared.Verdict.the-variants.{Agreed, Refused}
+
+-- ---- comparing
+
+-- the block of replica r
+abbrev pub blockOf : List ℕ → ℕ → ℕ → List ℕ
+blockOf blocks size r = take size (drop (r * size) blocks)
+
+-- the same bytes
+unfoldable pub alike : List ℕ → List ℕ → Bool
+alike [] [] = true
+alike [] (y ∷ ys) = false
+alike (x ∷ xs) [] = false
+alike (x ∷ xs) (y ∷ ys) = eqb x y && alike xs ys
+
+-- f at the n numbers from i on
+unfoldable pub tabulate : {A : Type 0} → (ℕ → A) → ℕ → ℕ → List A
+tabulate f i zero = []
+tabulate f i (suc n) = f i ∷ tabulate f (suc i) n
+
+-- replicas i and j, both of the first k, have the same block
+abbrev pub agree : List ℕ → ℕ → ℕ → ℕ → ℕ → Bool
+agree blocks k size i j = ltb i k && ltb j k && alike (blockOf blocks size i) (blockOf blocks size j)
+
+-- a row for each replica, which says of each other whether the two agree
+abbrev pub agreements : List ℕ → ℕ → ℕ → List (List Bool)
+agreements blocks k size = tabulate (λ i. tabulate (λ j. agree blocks k size i j) 0 16) 0 16
+
+-- ---- the winner
+
+-- a row as digits, replica 0's the lowest
+unfoldable pub digits : ℕ → List Bool → ℕ
+digits base [] = 0
+digits base (yes? ∷ row) = cond yes? 1 0 + base * digits base row
+
+-- how many replicas a row says yes to, and the same replicas as a mask: bit r for replica r
+abbrev pub votes : List Bool → ℕ
+votes row = digits 1 row
+
+abbrev pub maskOf : List Bool → ℕ
+maskOf row = digits 2 row
+
+-- of the first n replicas, the lowest-numbered among those with most votes
+unfoldable pub leader : List (List Bool) → ℕ → ℕ
+leader table zero = 0
+leader table (suc i) =
+    let best : ℕ = leader table i in
+    elim (ltb (votes (getD table best [])) (votes (getD table i []))) [ true ↦ i | false ↦ best ]
+
+-- ---- the decision
+
+-- a number of replicas, a length of block, a length of buffer or of output that is not allowed (the paper's bad ballot)
+abbrev pub invalid : ℕ → ℕ → ℕ → ℕ → Bool
+invalid blocksLength k size outputLength =
+    ltb k 3 || ltb 16 k || ltb size 1 || ltb 4096 size || not (eqb blocksLength (k * size)) || ltb outputLength size
+
+-- what a vote comes to: the row of the winning replicas and the block that they share, or a refusal
+pub data Decision : Type 0 where
+  won : List Bool → List ℕ → Decision
+  lost : Refusal → Decision
+
+-- the content of the leader wins if two or more share it (the paper's no two alike where they do not)
+unfoldable pub count : List ℕ → ℕ → ℕ → Decision
+count blocks k size =
+    let table : List (List Bool) = agreements blocks k size in
+    let best : ℕ = leader table k in
+    elim (ltb (votes (getD table best [])) 2) [ true ↦ lost NoAgreement | false ↦ won (getD table best []) (blockOf blocks size best) ]
+
+unfoldable pub decide : List ℕ → ℕ → ℕ → ℕ → Decision
+decide blocks k size outputLength =
+    elim (invalid (length blocks) k size outputLength) [ true ↦ lost InvalidVote | false ↦ count blocks k size ]
+
+-- ---- what the caller sees
+
+-- the paper's answer but for the replica that it names
+pub record Tally : Type 0 where
+  pub number : ℕ
+  pub mask : ℕ
+  pub value : ℕ
+
+abbrev pub tally : Decision → Tally
+tally (won row block) = record { number = 0; mask = maskOf row; value = votes row }
+tally (lost r) = record { number = numberOf r; mask = 0; value = 0 }
+
+-- the winning block at the front; further bytes are kept, and a refusal keeps all
+abbrev pub outputAfter : Decision → List ℕ → List ℕ
+outputAfter (won row block) output = block ++ drop (length block) output
+outputAfter (lost r) output = output
+
+-- the numbers of an answer
+abbrev pub tallyOf : Verdict → Tally
+tallyOf (Agreed mask count replica) = record { number = 0; mask = mask; value = count }
+tallyOf (Refused r) = record { number = numberOf r; mask = 0; value = 0 }
+
+abbrev pub replicaOf : Verdict → ℕ
+replicaOf (Agreed mask count replica) = replica
+replicaOf (Refused r) = 0
+
+-- the replica that an answer names is a winner: its bit is set in the mask
+abbrev pub NamesWinner : Verdict → Type 0
+NamesWinner (Agreed mask count replica) = mask / 2 ^ replica % 2 ≡ 1
+NamesWinner (Refused r) = Unit {0}

@@ -1,0 +1,67 @@
+// The vote: what most replicas wrote goes on, if two or more wrote it.
+mod compare;
+mod elect;
+
+use answer::Refusal;
+ghost use mathlib.Core.Path.{_≡_};
+ghost use lib.ListN.{length};
+ghost use Rattle.vote.specs.Decide.{invalid, decide, tally, tallyOf, outputAfter, NamesWinner};
+
+const MOST_REPLICAS: usize = 16;
+
+const LONGEST_BLOCK: usize = 4096;
+
+pub enum Verdict {
+    // The winning replicas as a mask (bit r for replica r), how many they are, and one of them.
+    Agreed { mask: u32, count: u32, replica: u32 },
+    Refused(Refusal),
+}
+
+// Whether the numbers of a vote are not allowed. The factors are judged before they are multiplied.
+fn is_invalid(blocks_len: usize, replicas: usize, block_len: usize, output_len: usize) -> bool
+    ensures { λ r. ⌜ r ≡ invalid «blocks_len» replicas «block_len» «output_len» ⌝ }
+{
+    if replicas < 3 {
+        return true;
+    }
+    if MOST_REPLICAS < replicas {
+        return true;
+    }
+    if block_len < 1 {
+        return true;
+    }
+    if LONGEST_BLOCK < block_len {
+        return true;
+    }
+    if blocks_len != replicas * block_len {
+        return true;
+    }
+    output_len < block_len
+}
+
+// Replicas lie one after another in `blocks`, a block each. The winning block goes to the front of `output`.
+pub fn vote(blocks: &[u8], replicas: usize, block_len: usize, output: &mut [u8]) -> Verdict
+    ensures numbers { λ r. ⌜ tallyOf r ≡ tally (decide (now (blocks .entry)) replicas «block_len» (length (now (output .entry)))) ⌝ }
+    // Which of the winners is named is open: the rules let it be any one.
+    ensures named { λ r. ⌜ NamesWinner r ⌝ }
+    ensures written { λ _. ⌜ now (output .exit) ≡ outputAfter (decide (now (blocks .entry)) replicas «block_len» (length (now (output .entry)))) (now (output .entry)) ⌝ }
+{
+    if is_invalid(blocks.len(), replicas, block_len, output.len()) {
+        return Verdict::Refused(Refusal::InvalidVote);
+    }
+    let table = compare::agreements(blocks, replicas, block_len);
+    let winner = elect::leader(table, replicas);
+    let row = table[winner];
+    let count = elect::digits(row, 1);
+    if count < 2 {
+        return Verdict::Refused(Refusal::NoAgreement);
+    }
+    let start = winner * block_len;
+    let end = start + block_len;
+    bytes::copy(&blocks[start..end], output);
+    Verdict::Agreed {
+        mask: elect::digits(row, 2),
+        count,
+        replica: winner as u32,
+    }
+}
