@@ -1,11 +1,11 @@
 -- A byte's bits: setting one, clearing one, counting the lowest.
-use mathlib.Core.Path.{_≡_, sym, ap, _∙_}
+use mathlib.Core.Path.{_≡_, refl, sym, ap, _∙_}
 use Prim.Native.Nat.{ℕ, zero, suc, _+_, _-_, _*_, _/_, _%_, _^_, _<_}
-use native.Mathlib.Nat.{zero-mul, sub-zero, mod-one}
+use native.Mathlib.Nat.{zero-mul, sub-zero, mod-one, pow-suc, add-div-right}
 use native.Mathlib.Numerals.{add-one, one-add}
 use native.Mathlib.Omega.{arith}
 use lib.Bits.{bitAnd, bitOr, bitXor, and-high, or-add-and, xor-add-and, xor-zero-r}
-use lib.Pow.{high-ones, shl-exact, shr-shr, field, mod-mod-pow}
+use lib.Pow.{pow-pos, high-ones, shl-exact, shr-shr, field, mod-mod-pow}
 use lib.Count.{onesIn, ones, ones-step}
 
 -- a bit shifted to its place in a byte
@@ -50,3 +50,22 @@ unfolding ones onesIn
 ones-mod zero x = rw mod-one
 ones-mod (suc r) x =
     ones-step (x % 2 ^ suc r) ∙ rw (← add-one r, mod-mod-pow x r 1, field x r 1, ones-mod r (x / 2))
+
+-- a bit above the lowest is one of the half
+bit-half : (x q : ℕ) → x / 2 ^ suc q % 2 ≡ x / 2 / 2 ^ q % 2
+bit-half x q = rw (shr-shr x 1 q, one-add)
+
+-- a weight added turns its bit
+pub add-here : (x p : ℕ) → (x + 2 ^ p) / 2 ^ p % 2 ≡ 1 - x / 2 ^ p % 2
+add-here x p = omega (arith, add-div-right x (pow-pos p))
+
+-- and where the bit was clear, it leaves the others
+pub add-other : (x p q : ℕ) → x / 2 ^ p % 2 ≡ 0 → (q ≡ p → ⊥) → (x + 2 ^ p) / 2 ^ q % 2 ≡ x / 2 ^ q % 2
+add-other x zero zero e h = absurd (h refl)
+add-other x zero (suc q) e h =
+    let half : (x + 1) / 2 ≡ x / 2 = omega arith in
+    simp (bit-half, half)
+add-other x (suc p) zero e h = omega (arith, pow-suc 2 p)
+add-other x (suc p) (suc q) e h =
+    let half : (x + 2 ^ suc p) / 2 ≡ x / 2 + 2 ^ p = omega (arith, pow-suc 2 p) in
+    simp (bit-half, half) (add-other (x / 2) p q (rw bit-half at e) (λ f. h (ap suc f)))

@@ -2,7 +2,7 @@
 use mathlib.Core.Path.{_≡_, refl, ap, _∙_}
 use mathlib.Core.List.{List}
 use Prim.Native.Nat.{ℕ, zero, suc, _+_, _*_, _/_, _%_, _^_, _<_, _≤_}
-use native.Mathlib.Nat.{add-zero, add-suc, mod-eq-of-lt}
+use native.Mathlib.Nat.{le-refl, add-zero, add-suc, mod-eq-of-lt}
 use native.Mathlib.Decide.{le-ind}
 use native.Mathlib.Omega.{arith}
 use lib.Count.{onesIn, ones}
@@ -17,6 +17,12 @@ module _ (b : List ℕ) where
   unfolding countSet
   count-le zero r e = omega arith
   count-le (suc n) r e = omega (arith, count-le n (countSet b n) refl)
+
+  -- where all are set they are as many as there are
+  pub count-full : (n : ℕ) → ((i : ℕ) → i < n → bit b i ≡ 1) → countSet b n ≡ n
+  unfolding countSet
+  count-full zero h = refl
+  count-full (suc n) h = omega (arith, h n (le-refl (suc n)), count-full n (λ i l. h i (omega arith)))
 
   -- past the last byte there is nothing to count
   pub count-past : (n : ℕ) → 8 * length b ≤ n → countSet b (8 * length b) ≡ countSet b n

@@ -1,18 +1,18 @@
 -- Laws of the layout, each over the slot size and the class as variables.
-use Prim.Native.Nat.{ℕ, zero, suc, min, _+_, _-_, _*_, _^_, _≤_, _<_}
+use Prim.Native.Nat.{ℕ, zero, suc, min, zero-le, _+_, _-_, _*_, _^_, _≤_, _<_}
 use mathlib.Core.Path.{_≡_, refl, sym, ap, subst, _∙_}
-use mathlib.Core.Bool.{Bool}
-use native.Mathlib.Nat.{div-zero, le-add-right, add-suc, add-zero, add-sub-of-le}
-use native.Mathlib.Decide.{decLe}
+use mathlib.Core.Bool.{Bool, true, false, cond}
+use native.Mathlib.Nat.{div-zero, le-refl, le-add-right, add-suc, add-zero, add-sub-of-le}
+use native.Mathlib.Decide.{decLe, decLt, le-ind}
 use native.Mathlib.Numerals.{add-one}
 use native.Mathlib.Omega.{arith}
 use lib.Dec.{leb, ltb, eqb}
 use lib.Pow.{pow-mono}
-use borrow.Author.Tests.{lt-ltb, le-ltb, le-leb, lt-leb, eq-eqb, ne-eqb}
+use borrow.Author.Tests.{lt-ltb, le-ltb, le-leb, lt-leb, eq-eqb, ne-eqb, eqb-true, ltb-true}
 use Rattle.search.specs.First.{first}
-use Rattle.search.proofs.First.{first-found, first-past, first-none}
+use Rattle.search.proofs.First.{first-found, first-past, first-none, first-range, first-passes}
 use Rattle.geometry.specs.declared.Layout.{Layout}
-use Rattle.geometry.specs.Layout.{classes, regionOf, slotSize, classOf, bitmapAt, bitmapLength}
+use Rattle.geometry.specs.Layout.{classes, regionOf, slotSize, classOf, header, bitmapAt, bitmapLength}
 
 -- ---- region lengths
 
@@ -29,8 +29,22 @@ module _ (n : ℕ) {e : ℕ} (rest : first (isHeap n) 10 (21 - 10) ≡ first (is
   pub region-none : 21 ≤ e → 0 ≡ regionOf n
   region-none h = sym (rw (rest ∙ first-none (isHeap n) h, le-ltb e 21 h))
 
-pub region-le : {e : ℕ} → e < 21 → 2 ^ e ≤ 1048576
-region-le {e} h = pow-mono {i = e} {j = 20} (omega arith)
+-- what a layout says of its heap
+pub record Laid (n region : ℕ) : Type 0 where
+  pub small : region ≤ 1048576
+  pub whole : (region ≡ 0 → ⊥) → n ≡ classes * region
+
+pub laid : (n : ℕ) → Laid n (regionOf n)
+laid n = go (ltb e 21) refl
+  where
+    e : ℕ
+    e = first (isHeap n) 10 11
+
+    go : (t : Bool) → ltb e 21 ≡ t → Laid n (cond t (2 ^ e) 0)
+    go true q =
+        let h : e < 21 = ltb-true e 21 q in
+        record { small = pow-mono {i = e} {j = 20} (omega arith); whole = λ some. eqb-true n (classes * 2 ^ e) (first-passes (isHeap n) 10 11 h) }
+    go false q = record { small = omega arith; whole = λ some. absurd (some refl) }
 
 -- ---- slots
 
@@ -41,6 +55,13 @@ slot-size-of G {c} h = rw (lt-ltb c classes h, slotSize)
 pub slot-size-past : (G : Layout) {c : ℕ} → classes ≤ c → slotSize G c ≡ 0
 unfolding slotSize
 slot-size-past G {c} h = rw (le-ltb c classes h, slotSize)
+
+-- no class's slots are longer than the last one's
+pub slot-size-le : (G : Layout) (c : ℕ) → slotSize G c ≤ 16384
+slot-size-le G c = elim (decLt c classes) [
+  | yes h ↦ rw (slot-size-of G h) (omega (arith, pow-mono {i = c} {j = 11} (omega arith)))
+  | no h ↦ rw (slot-size-past G {c = c} (omega arith)) (omega arith)
+]
 
 -- ---- the class of a size
 
@@ -56,6 +77,10 @@ module _ (G : Layout) (size : ℕ) {c : ℕ} (rest : classOf G size ≡ first (h
 
   pub class-none : classes ≤ c → c ≡ classOf G size
   class-none h = sym (rest ∙ first-none (holds G size) h)
+
+-- no class is past the one after the last
+pub class-le : (G : Layout) (size : ℕ) → classOf G size ≤ classes
+class-le G size = first-range (holds G size) 0 classes .1
 
 -- ---- bitmaps
 
@@ -83,3 +108,20 @@ clamped G c = go (decLe classes c)
 -- so a start that is right at one class is right at any that is the same up to the last
 pub bitmap-same : (G : Layout) (c d : ℕ) {at : ℕ} → at ≡ bitmapAt G c → min c classes ≡ min d classes → at ≡ bitmapAt G d
 bitmap-same G c d p e = p ∙ clamped G c ∙ ap (bitmapAt G) e ∙ sym (clamped G d)
+
+-- starts rise with the class, from the fields' end to the metadata's
+pub bitmap-rising : (G : Layout) (c d : ℕ) → c ≤ d → bitmapAt G c ≤ bitmapAt G d
+unfolding bitmapAt
+bitmap-rising G c = le-ind (λ (d : ℕ). bitmapAt G c ≤ bitmapAt G d) (le-refl _) (λ d h p. omega arith)
+
+pub bitmap-after : (G : Layout) (c : ℕ) → header ≤ bitmapAt G c
+unfolding bitmapAt
+bitmap-after G c = bitmap-rising G 0 c zero-le
+
+pub bitmap-inside : (G : Layout) (c : ℕ) → bitmapAt G c ≤ bitmapAt G classes
+bitmap-inside G c = rw (clamped G c) (bitmap-rising G (min c classes) classes (omega arith))
+
+-- a bitmap ends before those of later classes, and before the end of the metadata
+pub bitmap-before : (G : Layout) (c d : ℕ) → c < d → bitmapAt G c + bitmapLength G c ≤ bitmapAt G d
+unfolding bitmapAt
+bitmap-before G c d h = bitmap-rising G (suc c) d h

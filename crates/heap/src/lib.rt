@@ -1,1 +1,124 @@
-// The heap: opening, six operations and one entry point. So far its definitions stand; its functions come with the theorem over whole runs.
+// The heap: opening, six operations and one entry point.
+mod allocate;
+mod copy;
+mod fields;
+mod object;
+
+use answer::Answer;
+use answer::Refusal;
+use geometry::Layout;
+use mwc::Generator;
+use request::Parsed;
+use request::Request;
+use rules::Kind;
+ghost use mathlib.Core.Path.{_≡_};
+ghost use Prim.Native.Nat.{_≤_, _<_};
+ghost use lib.ListN.{length, replicate};
+ghost use Rattle.geometry.specs.Layout.{layoutOf, metadataLength, heapLength};
+ghost use Rattle.answer.specs.Reply.{replyOf};
+ghost use Rattle.rules.specs.Open.{setup, openReply, opened};
+ghost use Rattle.rules.specs.Outcome.{reply, metadataAfter, heapAfter};
+ghost use Rattle.rules.specs.Serve.{perform, serve};
+
+fn wide(x: u32) -> usize
+    ensures { λ r. ⌜ (r ≡ x) × (r < 4294967296) ⌝ }
+{
+    x as usize
+}
+
+// Writes zeros throughout.
+fn clear(bytes: &mut [u8])
+    ensures { λ _. ⌜ now (bytes .exit) ≡ replicate (length (now (bytes .entry))) 0 ⌝ }
+{
+    let mut i = 0;
+    while i < bytes.len() {
+        bytes[i] = 0;
+        i += 1;
+    }
+}
+
+// Writes fresh metadata for a heap of this length. The heap's bytes are left alone.
+pub fn open(heap: &[u8], metadata: &mut [u8], z: u32, w: u32) -> Answer
+    ensures { λ r. ⌜ replyOf r ≡ openReply (length (now (heap .entry))) (length (now (metadata .entry))) (setup z w) ⌝ }
+    ensures { λ _. ⌜ now (metadata .exit) ≡ opened (length (now (heap .entry))) (now (metadata .entry)) (setup z w) ⌝ }
+{
+    let layout = Layout::of(heap.len());
+    if layout.region == 0 {
+        return Answer::Refused(Refusal::HeapLength);
+    }
+    if metadata.len() != layout.metadata_length() {
+        return Answer::Refused(Refusal::MetadataLength);
+    }
+    if z == 0 {
+        return Answer::Refused(Refusal::ZeroSeed);
+    }
+    if w == 0 {
+        return Answer::Refused(Refusal::ZeroSeed);
+    }
+    clear(metadata);
+    fields::store(metadata, Generator { z, w });
+    Answer::Served(0)
+}
+
+// Carries a request out on a heap and metadata that fit its layout.
+fn perform(
+    heap: &mut [u8],
+    metadata: &mut [u8],
+    layout: Layout,
+    request: Request,
+    source: &[u8],
+) -> Answer
+    requires { ⌜ (layout .region ≤ 1048576) × (length (now metadata) ≡ metadataLength layout) × (length (now heap) ≡ heapLength layout) ⌝ }
+    ensures { λ r. ⌜ replyOf r ≡ reply layout (perform layout (now (metadata .entry)) (now (source .entry)) request) ⌝ }
+    ensures { λ _. ⌜ now (metadata .exit) ≡ metadataAfter layout (now (metadata .entry)) (perform layout (now (metadata .entry)) (now (source .entry)) request) ⌝ }
+    ensures { λ _. ⌜ now (heap .exit) ≡ heapAfter (now (heap .entry)) (perform layout (now (metadata .entry)) (now (source .entry)) request) ⌝ }
+{
+    match request {
+        Request::Allocate(size) => allocate::allocate(metadata, layout, size),
+        Request::Free(offset) => object::free(metadata, layout, offset),
+        Request::Remaining(offset) => object::remaining(metadata, layout, offset),
+        Request::CopyBytes(offset) => copy::copy(
+            heap,
+            metadata,
+            layout,
+            offset,
+            Kind::Bytes,
+            source,
+        ),
+        Request::CopyString(offset) => copy::copy(
+            heap,
+            metadata,
+            layout,
+            offset,
+            Kind::String,
+            source,
+        ),
+        Request::CopyPadded(offset, count) => copy::copy(
+            heap,
+            metadata,
+            layout,
+            offset,
+            Kind::Padded(count),
+            source,
+        ),
+    }
+}
+
+// Serves a request of any bytes on any heap and any metadata.
+pub fn serve(heap: &mut [u8], metadata: &mut [u8], request: &[u8], source: &[u8]) -> Answer
+    ensures { λ r. ⌜ replyOf r ≡ reply (layoutOf (length (now (heap .entry)))) (serve (length (now (heap .entry))) (now (metadata .entry)) (now (request .entry)) (now (source .entry))) ⌝ }
+    ensures { λ _. ⌜ now (metadata .exit) ≡ metadataAfter (layoutOf (length (now (heap .entry)))) (now (metadata .entry)) (serve (length (now (heap .entry))) (now (metadata .entry)) (now (request .entry)) (now (source .entry))) ⌝ }
+    ensures { λ _. ⌜ now (heap .exit) ≡ heapAfter (now (heap .entry)) (serve (length (now (heap .entry))) (now (metadata .entry)) (now (request .entry)) (now (source .entry))) ⌝ }
+{
+    let layout = Layout::of(heap.len());
+    if layout.region == 0 {
+        return Answer::Refused(Refusal::HeapLength);
+    }
+    if metadata.len() != layout.metadata_length() {
+        return Answer::Refused(Refusal::MetadataLength);
+    }
+    let Parsed::Whole(whole) = request::read(request) else {
+        return Answer::Refused(Refusal::MalformedRequest);
+    };
+    perform(heap, metadata, layout, whole, source)
+}

@@ -10,9 +10,9 @@ use Rattle.search.specs.First.{first}
 use Rattle.geometry.specs.Layout.{slotSize, bitmapAt}
 use Rattle.bitmap.specs.Bitmap.{putByte, countSet, nextClear}
 use Rattle.request.specs.Parse.{parse}
-use Rattle.heap.specs.Allocate.{probe, allocate}
-use Rattle.heap.specs.Object.{free, space, remaining, copy}
-use Rattle.heap.specs.Serve.{serve}
+use Rattle.rules.specs.Allocate.{probe, allocate}
+use Rattle.rules.specs.Object.{free, space, remaining, copy}
+use Rattle.rules.specs.Serve.{serve}
 use Rattle.vote.specs.Decide.{alike, tabulate, digits, leader, count, decide}
 use Rattle.vote.proofs.Blocks.{alike-equal}
 use Rattle.known_answers.specs.Table.{Row, table, start, request, outcomeOf, after, oneObject, numbers, copying, voting, row}

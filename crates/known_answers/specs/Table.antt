@@ -7,11 +7,10 @@ use Rattle.mwc.specs.declared.Generator.{Generator}
 use Rattle.mwc.specs.Draw.{next, drawn}
 use Rattle.geometry.specs.declared.Layout.{Layout}
 use Rattle.geometry.specs.Layout.{layoutOf, classes, classOf, metadataLength}
-use Rattle.answer.specs.Reply.{Reply}
-use Rattle.heap.specs.Open.{Setup, opened}
-use Rattle.heap.specs.Outcome.{Outcome, reply, metadataAfter, heapAfter}
-use Rattle.heap.specs.Serve.{serve}
-use Rattle.vote.specs.Decide.{Decision, Tally, decide, tally, outputAfter}
+use Rattle.rules.specs.Open.{setup, opened}
+use Rattle.rules.specs.Outcome.{Outcome, reply, metadataAfter, heapAfter}
+use Rattle.rules.specs.Serve.{serve}
+use Rattle.vote.specs.Decide.{Decision, decide, tally, outputAfter}
 
 pub record Row : Type 0 where
   pub computed : List ℕ
@@ -29,7 +28,7 @@ abbrev pub seeds : ℕ → ℕ → Generator
 seeds z w = record { z = z; w = w }
 
 unfoldable pub start : List ℕ
-start = opened heapBytes (replicate (metadataLength G) 0) (record { seeds = seeds 1 1 })
+start = opened heapBytes (replicate (metadataLength G) 0) (setup 1 1)
 
 -- a request of an operation, its size or offset and its count
 unfoldable pub request : ℕ → ℕ → ℕ → List ℕ

@@ -1,8 +1,9 @@
--- Laws of `first` as a loop meets it that counts i up to n.
+-- Laws of `first`: as a loop meets it that counts i up to n, and of what it gives.
 use Prim.Native.Nat.{ℕ, zero, suc, _+_, _-_, _≤_, _<_}
-use mathlib.Core.Path.{_≡_, refl, sym, ap, _∙_}
-use mathlib.Core.Bool.{Bool, true, false}
+use mathlib.Core.Path.{_≡_, refl, sym, _∙_}
+use mathlib.Core.Bool.{Bool, true, false, true≢false}
 use native.Mathlib.Nat.{sub-eq-zero-of-le}
+use native.Mathlib.Decide.{ℕ-discrete, decLt}
 use native.Mathlib.Numerals.{add-one}
 use native.Mathlib.Omega.{arith}
 use Rattle.search.specs.First.{first}
@@ -28,3 +29,55 @@ module _ (test : ℕ → Bool) where
   pub first-none : {i n : ℕ} → n ≤ i → first test i (n - i) ≡ i
   unfolding first
   first-none h = rw (sub-eq-zero-of-le h)
+
+  -- the answer is one of the numbers, or the one after them
+  pub first-range : (i k : ℕ) → (i ≤ first test i k) × (first test i k ≤ i + k)
+  unfolding first
+  first-range i zero = omega arith
+  first-range i (suc k) = go (test i) refl (first-range (suc i) k)
+    where
+      go : (t : Bool) → test i ≡ t → (suc i ≤ first test (suc i) k) × (first test (suc i) k ≤ suc i + k)
+          → (i ≤ first test i (suc k)) × (first test i (suc k) ≤ i + suc k)
+      go true e rest = rw (e, first) (omega arith)
+      go false e rest = rw (e, first) (omega arith)
+
+  -- what is found before the end passes
+  pub first-passes : (i k : ℕ) → first test i k < i + k → test (first test i k) ≡ true
+  unfolding first
+  first-passes i zero h = absurd (omega arith)
+  first-passes i (suc k) h = go (test i) refl (first-passes (suc i) k)
+    where
+      go : (t : Bool) → test i ≡ t → (first test (suc i) k < suc i + k → test (first test (suc i) k) ≡ true)
+          → test (first test i (suc k)) ≡ true
+      go true e rest = rw (e, first) e
+      go false e rest =
+          let l : first test (suc i) k < i + suc k = rw (e, first) at h in
+          rw (e, first) (rest (omega arith))
+
+  -- what lies before it does not pass
+  pub first-before : (i k j : ℕ) → i ≤ j → j < first test i k → test j ≡ false
+  unfolding first
+  first-before i zero j l h = absurd (omega arith)
+  first-before i (suc k) j l h = go (test i) refl (ℕ-discrete i j) (first-before (suc i) k j)
+    where
+      go : (t : Bool) → test i ≡ t → Dec (i ≡ j) → (i < j → j < first test (suc i) k → test j ≡ false) → test j ≡ false
+      go true e at rest = let z : j < i = rw (e, first) at h in absurd (omega arith)
+      go false e (yes q) rest = rw (← q) e
+      go false e (no q) rest = rest (omega arith) (rw (e, first) at h)
+
+  -- it passes also at the end, if what stands there does
+  pub first-holds : (i k : ℕ) → test (i + k) ≡ true → test (first test i k) ≡ true
+  first-holds i k e = elim (decLt (first test i k) (i + k)) [
+    | yes h ↦ first-passes i k h
+    | no h ↦ let end : first test i k ≡ i + k = omega (arith, first-range i k) in rw end e
+  ]
+
+  -- where it passes it does not depend on how far the search may go
+  pub first-same : (i j k : ℕ) → test (first test i j) ≡ true → test (first test i k) ≡ true → first test i j ≡ first test i k
+  first-same i j k p q = omega (arith, least j k p, least k j q)
+    where
+      least : (a b : ℕ) → test (first test i a) ≡ true → first test i b ≤ first test i a
+      least a b e = elim (decLt (first test i a) (first test i b)) [
+        | yes h ↦ absurd (true≢false (sym e ∙ first-before i b _ (first-range i a .0) h))
+        | no h ↦ omega arith
+      ]

@@ -1,20 +1,20 @@
 -- How comparing goes about its work: agreement goes by content, so each replica is known by the lowest one with the same block. What the
 -- vote promises rests on `Decide` alone.
-use Prim.Native.Nat.{ℕ, zero, suc}
+use Prim.Native.Nat.{ℕ}
 use mathlib.Core.Bool.{Bool, true, false, _&&_}
 use mathlib.Core.List.{List}
 use lib.ListN.{getD}
 use lib.Dec.{ltb, eqb}
+use Rattle.search.specs.First.{first}
 use Rattle.vote.specs.Decide.{blockOf, alike, tabulate}
 
--- the first of the k replicas from i on whose block is the one given; the replica after them where there is none
-unfoldable pub lowest : List ℕ → ℕ → List ℕ → ℕ → ℕ → ℕ
-lowest blocks size block i zero = i
-lowest blocks size block i (suc k) = elim (alike (blockOf blocks size i) block) [ true ↦ i | false ↦ lowest blocks size block (suc i) k ]
+-- whether replica i has a block
+abbrev pub hasBlock : List ℕ → ℕ → List ℕ → ℕ → Bool
+hasBlock blocks size block i = alike (blockOf blocks size i) block
 
 -- the lowest replica with the block of replica i; past the k replicas it is i itself
 unfoldable pub groupOf : List ℕ → ℕ → ℕ → ℕ → ℕ
-groupOf blocks k size i = elim (ltb i k) [ true ↦ lowest blocks size (blockOf blocks size i) 0 i | false ↦ i ]
+groupOf blocks k size i = elim (ltb i k) [ true ↦ first (hasBlock blocks size (blockOf blocks size i)) 0 i | false ↦ i ]
 
 abbrev pub groupsOf : List ℕ → ℕ → ℕ → List ℕ
 groupsOf blocks k size = tabulate (groupOf blocks k size) 0 16

@@ -1,8 +1,8 @@
 // Comparing: the table of which two replicas agree.
 ghost use mathlib.Core.Path.{_≡_};
-ghost use Prim.Native.Nat.{_*_, _≤_, _<_};
+ghost use Prim.Native.Nat.{_*_, _<_};
 ghost use lib.ListN.{length};
-ghost use Rattle.vote.specs.Decide.{blockOf, alike, tabulate, agreements};
+ghost use Rattle.vote.specs.Decide.{alike, tabulate, agreements};
 ghost use Rattle.vote.specs.Groups.{groupOf, groupsOf, together};
 
 // Whether two blocks hold the same bytes. The loop has no early exit, so that it vectorises.

@@ -1,0 +1,70 @@
+-- Slots lie apart and within the heap, whatever the slot sizes and the region length.
+use Prim.Native.Nat.{ℕ, suc, _+_, _-_, _*_, _/_, _%_, _≤_, _<_}
+use mathlib.Core.Path.{_≡_, ap, _∙_}
+use native.Mathlib.Nat.{le-trans, pos-of-ne-zero, div-zero, div-mul-le-self, div-add-mod', div-lt-iff-lt-mul, mod-lt, mul-le-mul-right, suc-mul}
+use native.Mathlib.Decide.{decLt}
+use native.Mathlib.Omega.{arith}
+use lib.Arith.{digits-div, digits-mod}
+use Rattle.geometry.specs.declared.Layout.{Layout}
+use Rattle.geometry.specs.Layout.{classes, heapLength, slotSize, slots, slotStart, locate}
+use Rattle.geometry.proofs.Geometry.{slot-size-past}
+
+-- only a class below the last has slots
+pub slots-class : (G : Layout) (c i : ℕ) → i < slots G c → c < classes
+slots-class G c i h =
+    elim (decLt c classes) [
+      | yes l ↦ l
+      | no l ↦ let none : slots G c ≡ 0 = rw (slot-size-past G {c = c} (omega arith)) (div-zero (G .region)) in omega arith
+    ]
+
+-- where there is a slot, slots have bytes
+pub slot-size-pos : (G : Layout) (c i : ℕ) → i < slots G c → 0 < slotSize G c
+slot-size-pos G c i h = pos-of-ne-zero (λ e. let none : slots G c ≡ 0 = rw e (div-zero (G .region)) in omega arith)
+
+-- a slot ends within its region
+pub slot-within : (G : Layout) (c i : ℕ) → i < slots G c → i * slotSize G c + slotSize G c ≤ G .region
+slot-within G c i h = rw (← suc-mul) (le-trans (mul-le-mul-right (slotSize G c) h) (div-mul-le-self (G .region) (slotSize G c)))
+
+-- a slot starts within the heap; so does one right after the last
+pub slot-start-le : (G : Layout) {c i : ℕ} → c < classes → i ≤ slots G c → slotStart G c i ≤ heapLength G
+slot-start-le G {c} {i} h l =
+    let before : i * slotSize G c ≤ slots G c * slotSize G c = mul-le-mul-right (slotSize G c) l in
+    let region : slots G c * slotSize G c ≤ G .region = div-mul-le-self (G .region) (slotSize G c) in
+    let regions : suc c * G .region ≤ heapLength G = mul-le-mul-right (G .region) h in
+    omega (arith, suc-mul c (G .region))
+
+-- a byte of a slot is located there, so slots share no byte
+pub slot-located : (G : Layout) (c i x : ℕ) → i < slots G c → slotStart G c i ≤ x → x < slotStart G c i + slotSize G c
+    → (locate G x .class ≡ c) × (locate G x .slot ≡ i)
+slot-located G c i x h l u =
+    let s : ℕ = slotSize G c in
+    let into : ℕ = x - slotStart G c i in
+    let within : into < s = omega arith in
+    let below : i * s + into < G .region = omega (arith, slot-within G c i h) in
+    let split : x ≡ c * G .region + (i * s + into) = omega arith in
+    let class : x / G .region ≡ c = ap (λ (y : ℕ). y / G .region) split ∙ digits-div c below in
+    let rest : x % G .region ≡ i * s + into = ap (λ (y : ℕ). y % G .region) split ∙ digits-mod c below in
+    (class, rw (class, rest) (digits-div i within))
+
+-- an offset that lies no way into its slot is where the slot starts
+pub located-start : (G : Layout) (x : ℕ) → locate G x .into ≡ 0 → x ≡ slotStart G (locate G x .class) (locate G x .slot)
+located-start G x e =
+    omega (arith, div-add-mod' x (G .region), div-add-mod' (x % G .region) (slotSize G (x / G .region)))
+
+-- where an offset lies in a slot, it lies before the slot's end, and the slot ends within the heap
+module _ (G : Layout) (offset : ℕ) (some : locate G offset .slot < slots G (locate G offset .class)) where
+  pub into-lt : locate G offset .into < slotSize G (locate G offset .class)
+  into-lt = mod-lt (offset % G .region) (slot-size-pos G (offset / G .region) (locate G offset .slot) some)
+
+  pub slot-ends : offset < heapLength G → offset + (slotSize G (locate G offset .class) - locate G offset .into) ≤ heapLength G
+  slot-ends inside =
+      let class : offset / G .region < classes = div-lt-iff-lt-mul {k = G .region} (omega arith) .1 inside in
+      let regions : suc (offset / G .region) * G .region ≤ heapLength G = mul-le-mul-right (G .region) class in
+      omega (
+        arith,
+        into-lt,
+        suc-mul (offset / G .region) (G .region),
+        slot-within G (offset / G .region) (locate G offset .slot) some,
+        div-add-mod' offset (G .region),
+        div-add-mod' (offset % G .region) (slotSize G (offset / G .region)),
+      )

@@ -1,0 +1,84 @@
+-- What each way through an allocation comes to.
+use Prim.Native.Nat.{ℕ, suc, _-_, _/_, _≤_, _<_}
+use mathlib.Core.Path.{_≡_, _∙_}
+use mathlib.Core.Bool.{false, _||_}
+use mathlib.Core.List.{List, _++_}
+use native.Mathlib.Omega.{arith}
+use borrow.Author.Tests.{le-leb, lt-leb, lt-ltb, le-ltb, eq-eqb, ne-eqb}
+use lib.Dec.{eqb}
+use lib.ListN.{length, take, drop}
+use Rattle.mwc.specs.declared.Generator.{Generator}
+use Rattle.geometry.specs.declared.Layout.{Layout}
+use Rattle.geometry.specs.Layout.{classes, slots, classOf, slotStart, bitmapAt, metadataLength}
+use Rattle.geometry.proofs.Geometry.{class-le}
+use Rattle.bitmap.specs.Bitmap.{setSlot, countSet}
+use Rattle.answer.specs.declared.Refusal.the-variants.{UnsupportedSize, ClassTooSmall, ClassAtCapacity}
+use Rattle.answer.specs.Reply.{served}
+use Rattle.rules.specs.declared.Found.{Found}
+use Rattle.rules.specs.Metadata.{generatorOf, fieldsOf, bitmapOf, overwrite}
+use Rattle.rules.specs.Outcome.{refused, reply, metadataAfter}
+use Rattle.rules.specs.Allocate.{draws, probe, taken, allocate}
+use Rattle.heap.proofs.Part.{part-bitmap, bitmap-back}
+use Rattle.heap.proofs.Probe.{probe-le}
+
+-- ---- taking a slot
+
+module _ (G : Layout) (m : List ℕ) (c : ℕ) {start end n : ℕ} {g : Generator} {found : Found}
+    (from : start ≡ bitmapAt G c) (to : end ≡ bitmapAt G (suc c)) (has : n ≡ slots G c) (seeds : g ≡ generatorOf m)
+    (drew : found ≡ probe (take (end - start) (drop start m)) n g 0 draws) where
+  -- the part that is lent to the search is the bitmap
+  chosen : found ≡ probe (bitmapOf G c m) (slots G c) (generatorOf m) 0 draws
+  chosen = drew ∙ rw (from, to, part-bitmap, has, seeds)
+
+  -- it is one of the class's, or the number of them
+  pub taken-slot : 0 < slots G c → found .slot ≤ slots G c
+  taken-slot h = rw chosen (probe-le (bitmapOf G c m) (slots G c) h (generatorOf m) 0 draws)
+
+  module _ (fits : length m ≡ metadataLength G) {part : List ℕ} (same : length part ≡ length (take (end - start) (drop start m)))
+      (put : part ≡ setSlot (take (end - start) (drop start m)) n (found .slot)) where
+    -- the bitmap with its slot set is back in its place
+    back : take start m ++ (part ++ drop (end - start) (drop start m)) ≡ overwrite m (bitmapAt G c) (setSlot (bitmapOf G c m) (slots G c) (found .slot))
+    back = bitmap-back G c m (λ b k. setSlot b k (found .slot)) fits has from to put same
+
+    -- with the generator stored the slot is taken
+    pub taken-done : {v : ℕ} → v ≡ slotStart G c (found .slot)
+        → (served v ≡ reply G (taken G m c))
+        × (overwrite (take start m ++ (part ++ drop (end - start) (drop start m))) 0 (fieldsOf (found .generator)) ≡ metadataAfter G m (taken G m c))
+    taken-done e = (rw (e, chosen), rw (back, chosen))
+
+-- ---- which size is served
+
+module _ (G : Layout) (m : List ℕ) (size : ℕ) where
+  -- nothing is no size
+  pub no-size : size ≡ 0 → allocate G m size ≡ refused UnsupportedSize
+  unfolding allocate
+  no-size e = rw (eq-eqb size 0 e)
+
+  module _ (sized : size ≡ 0 → ⊥) {c : ℕ} (of : c ≡ classOf G size) where
+    -- no class holds it
+    pub too-large : classes ≤ c → allocate G m size ≡ refused UnsupportedSize
+    unfolding allocate
+    too-large h =
+        let last : c ≡ classes = omega (arith, class-le G size) in
+        rw (ne-eqb size 0 sized, ← of, eq-eqb c classes last)
+
+    module _ (within : c < classes) {n : ℕ} (has : n ≡ slots G c) where
+      -- a class does
+      supported : eqb size 0 || eqb c classes ≡ false
+      supported = rw (ne-eqb size 0 sized) (ne-eqb c classes (λ e. omega arith))
+
+      -- a class with fewer than two slots is not used
+      pub too-small : n < 2 → allocate G m size ≡ refused ClassTooSmall
+      unfolding allocate
+      too-small h = rw (← of, supported, ← has, lt-ltb n 2 h)
+
+      module _ (two : 2 ≤ n) {count : ℕ} (counted : count ≡ countSet (bitmapOf G c m) n) where
+        -- a class is filled to half its slots
+        pub at-capacity : n / 2 ≤ count → allocate G m size ≡ refused ClassAtCapacity
+        unfolding allocate
+        at-capacity h = rw (← of, supported, ← rw has at counted, ← has, le-ltb n 2 two, le-leb (n / 2) count h)
+
+        -- else a slot is taken
+        pub roomy : count < n / 2 → allocate G m size ≡ taken G m c
+        unfolding allocate
+        roomy h = rw (← of, supported, ← rw has at counted, ← has, le-ltb n 2 two, lt-leb (n / 2) count h)

@@ -1,0 +1,44 @@
+-- The draws that lead to a slot, one turn of the loop at a time.
+use Prim.Native.Nat.{ℕ, zero, suc, _-_, _%_, _≤_, _<_}
+use mathlib.Core.Path.{_≡_}
+use mathlib.Core.Bool.{Bool, true, false}
+use mathlib.Core.List.{List}
+use native.Mathlib.Nat.{mod-lt}
+use native.Mathlib.Numerals.{sub-one}
+use native.Mathlib.Omega.{arith}
+use Rattle.mwc.specs.declared.Generator.{Generator}
+use Rattle.mwc.specs.Draw.{next, drawn}
+use Rattle.bitmap.specs.Bitmap.{isSet, nextClear}
+use Rattle.bitmap.proofs.Walk.{next-le}
+use Rattle.rules.specs.declared.Found.{Found}
+use Rattle.rules.specs.Allocate.{probe}
+
+module _ (b : List ℕ) (n last : ℕ) (g : Generator) where
+  module _ {g′ : Generator} {x : ℕ} (stepped : g′ ≡ next g) (number : x ≡ drawn g′) where
+    -- a draw that meets a clear slot takes it
+    pub probe-hit : {left : ℕ} → 0 < left → isSet b n (x % n) ≡ false → probe b n g last left ≡ record { slot = x % n; generator = g′ }
+    unfolding probe
+    probe-hit {left = zero} h e = absurd (omega arith)
+    probe-hit {left = suc k} h e = rw (number, stepped, rw (number, stepped) at e, probe)
+
+    -- one that meets a set slot leaves one draw fewer
+    pub probe-miss : {left : ℕ} → 0 < left → isSet b n (x % n) ≡ true → probe b n g last left ≡ probe b n g′ (x % n) (left - 1)
+    unfolding probe
+    probe-miss {left = zero} h e = absurd (omega arith)
+    probe-miss {left = suc k} h e = rw (sub-one, number, stepped, rw (number, stepped) at e, probe)
+
+  -- after the last draw the next clear slot is taken
+  pub probe-walk : {left r : ℕ} → left ≤ 0 → r ≡ nextClear b n last → probe b n g last left ≡ record { slot = r; generator = g }
+  unfolding probe
+  probe-walk {left = zero} h e = rw e
+  probe-walk {left = suc k} h e = absurd (omega arith)
+
+-- the slot is one of the n, or n
+pub probe-le : (b : List ℕ) (n : ℕ) → 0 < n → (g : Generator) (last k : ℕ) → probe b n g last k .slot ≤ n
+unfolding probe
+probe-le b n h g last zero = next-le b n last
+probe-le b n h g last (suc k) =
+    let i : ℕ = drawn (next g) % n in
+    let below : i < n = mod-lt (drawn (next g)) h in
+    elim (isSet b n i) as (λ (t : Bool). (elim t as (λ (u : Bool). Found) [ true ↦ probe b n (next g) i k | false ↦ record { slot = i; generator = next g } ]) .slot ≤ n)
+    [ true ↦ probe-le b n h (next g) i k | false ↦ omega arith ]

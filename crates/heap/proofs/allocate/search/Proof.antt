@@ -1,0 +1,77 @@
+-- `allocate::search` meets its contract. The loop's invariant: the draws that are left come to what all of them do.
+use mathlib.Core.Path.{_≡_, refl, sym, _∙_}
+use native.Mathlib.Omega.{arith}
+use borrow.Author.Needs.{needs}
+use borrow.Author.Tests.{not-true, not-false}
+use Rattle.rules.specs.Allocate.{probe}
+use Rattle.heap.proofs.Probe.{probe-hit, probe-miss, probe-walk}
+use Rattle.heap.proofs.allocate.search.Statement.{statement}
+use Rattle.heap.proofs.allocate.search.Tie as tie
+
+abbrev Inv-loop : tie.InvT-loop
+Inv-loop bitmap slots generator₀ last₀ left₀ generator last left = probe bitmap slots generator₀ last₀ left₀ ≡ probe bitmap slots generator last left
+
+abbrev μ-loop : tie.MeasureT-loop
+μ-loop bitmap slots generator₀ last₀ left₀ generator last left = left
+
+loop-holds : tie.Need-loop-holds Inv-loop μ-loop
+loop-holds c = refl
+
+advance-requires : tie.Need-advance-requires Inv-loop μ-loop
+advance-requires c κs = search needs
+
+draw-requires : tie.Need-draw-requires Inv-loop μ-loop
+draw-requires c κs = search needs
+
+wide-requires : tie.Need-wide-requires Inv-loop μ-loop
+wide-requires c κs = search needs
+
+rem-last : tie.Need-rem-last Inv-loop μ-loop
+rem-last c = search needs
+
+is-set-requires : tie.Need-is-set-requires Inv-loop μ-loop
+is-set-requires c κs = search needs
+
+returns : tie.Need-returns Inv-loop μ-loop
+returns c =
+    sym
+    (c .before .before .before .before .before .before .loop .inv
+    ∙ probe-hit _ _ _ _ (c .before .before .before .before .advance .ensures) (c .before .before .wide .ensures .0 ∙ c .before .before .before .draw .ensures)
+    (omega arith) (sym (c .before .is-set .ensures) ∙ not-true _ (c .if1 .taken)))
+
+sub-left : tie.Need-sub-left Inv-loop μ-loop
+sub-left c = omega arith
+
+loop-less : tie.Need-loop-less Inv-loop μ-loop
+loop-less c = omega arith
+
+loop-again : tie.Need-loop-again Inv-loop μ-loop
+loop-again c =
+    c .before .before .before .before .before .before .loop .inv
+    ∙ probe-miss _ _ _ _ (c .before .before .before .before .advance .ensures) (c .before .before .wide .ensures .0 ∙ c .before .before .before .draw .ensures)
+    (omega arith) (sym (c .before .is-set .ensures) ∙ not-false _ (c .if1 .left))
+
+next-clear-requires : tie.Need-next-clear-requires Inv-loop μ-loop
+next-clear-requires c κs = search needs
+
+returns-2 : tie.Need-returns-2 Inv-loop μ-loop
+returns-2 c = sym (c .before .before .loop .inv ∙ probe-walk _ _ _ _ (omega arith) (c .next-clear .ensures))
+
+pub search-spec : {M : Type 1} → statement M
+search-spec =
+    tie.close
+    (tie.spec
+    Inv-loop
+    μ-loop
+    loop-holds
+    advance-requires
+    draw-requires
+    wide-requires
+    rem-last
+    is-set-requires
+    returns
+    sub-left
+    loop-less
+    loop-again
+    next-clear-requires
+    returns-2)

@@ -1,0 +1,54 @@
+-- `heap::copy::write_string` meets its contract: what it hands on is the source through its first zero byte.
+use borrow.Author.Needs.{needs}
+use Rattle.heap.proofs.Clip.{string-part, string-whole}
+use Rattle.heap.proofs.copy.write_string.Statement.{statement}
+use Rattle.heap.proofs.copy.write_string.Tie as tie
+
+find-requires : tie.Need-find-requires
+find-requires c κs = search needs
+
+add-past : tie.Need-add-past
+add-past c = search needs
+
+sub-write-bytes : tie.Need-sub-write-bytes
+sub-write-bytes c = search needs
+
+part-write-bytes-start : tie.Need-part-write-bytes-start
+part-write-bytes-start c = search needs
+
+part-write-bytes-end : tie.Need-part-write-bytes-end
+part-write-bytes-end c = search needs
+
+write-bytes-requires : tie.Need-write-bytes-requires
+write-bytes-requires c κs = search needs
+
+same-length : tie.Need-same-length
+same-length c = search needs
+
+returns : tie.Need-returns
+returns c = rw (← string-part _ (c .before .before .before .before .before .before .find .ensures .0)) (c .before .before .write-bytes .ensures)
+
+write-bytes-requires-2 : tie.Need-write-bytes-requires-2
+write-bytes-requires-2 c κs = search needs
+
+same-length-2 : tie.Need-same-length-2
+same-length-2 c = search needs
+
+returns-2 : tie.Need-returns-2
+returns-2 c = rw (← string-whole _ (c .before .before .before .before .before .find .ensures .0) (c .before .before .before .before .if1 .left)) (c .before .before .write-bytes2 .ensures)
+
+pub write-string-spec : {M : Type 1} → statement M
+write-string-spec =
+    tie.close
+    (tie.spec
+    find-requires
+    add-past
+    sub-write-bytes
+    part-write-bytes-start
+    part-write-bytes-end
+    write-bytes-requires
+    same-length
+    returns
+    write-bytes-requires-2
+    same-length-2
+    returns-2)

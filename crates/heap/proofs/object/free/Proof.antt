@@ -1,0 +1,153 @@
+-- `heap::object::free` meets its contract: each refusal is the definition's, and the bitmap that comes back cleared is written over the old one.
+use Prim.Native.Nat.{_<_}
+use mathlib.Core.Path.{_≡_, refl}
+use mathlib.Core.Bool.{not, cond}
+use native.Mathlib.Omega.{arith}
+use borrow.Author.Tests.{le-leb, lt-ltb, le-ltb, eq-eqb, ne-eqb}
+use borrow.Author.Needs.{needs}
+use mir.Facts.{fits-below}
+use Rattle.geometry.proofs.Geometry.{slot-size-le}
+use Rattle.geometry.specs.Layout.{heapLength}
+use Rattle.bitmap.specs.Bitmap.{clearSlot}
+use Rattle.answer.specs.declared.Refusal.the-variants.{NotAllocated}
+use Rattle.rules.specs.Outcome.{refused, freed}
+use Rattle.rules.specs.Object.{free}
+use Rattle.heap.proofs.Part.{starts, ends, bitmap-back}
+use Rattle.heap.proofs.Live.{tested-live}
+use Rattle.heap.proofs.Freeing.{no-start, at-start}
+use Rattle.heap.proofs.object.free.Statement.{statement}
+use Rattle.heap.proofs.object.free.Tie as tie
+
+wide-requires : tie.Need-wide-requires
+wide-requires c κs = search needs
+
+mul-if1 : tie.Need-mul-if1
+mul-if1 c = search needs
+
+wide-requires-2 : tie.Need-wide-requires-2
+wide-requires-2 c κs = search needs
+
+returns : tie.Need-returns
+unfolding free
+returns c =
+    let a = c .before .before .before .before .args in
+    rw (le-leb (heapLength (a .layout)) (a .offset) (omega arith)) (refl, refl)
+
+-- past the first test the offset is one of the heap
+inside : (c : tie.Else1) → let a = c .before .before .before .before .args in a .offset < heapLength (a .layout)
+inside c = omega arith
+
+locate-requires : tie.Need-locate-requires
+locate-requires c κs = search needs
+
+slots-requires : tie.Need-slots-requires
+slots-requires c κs = search needs
+
+returns-2 : tie.Need-returns-2
+returns-2 c =
+    let s = c .before .before in
+    rw (no-start _ _ _ (inside (s .before .before)) (s .before .locate .ensures) (rw (ne-eqb _ _ (c .if2 .taken)))) (refl, refl)
+
+returns-3 : tie.Need-returns-3
+returns-3 c =
+    let s = c .before .before .before in
+    rw (no-start _ _ _ (inside (s .before .before)) (s .before .locate .ensures)
+    (rw (eq-eqb _ _ (c .before .if2 .left), le-ltb _ _ (rw (s .slots .ensures .0) at (c .if3 .taken))))) (refl, refl)
+
+bitmap-start-requires : tie.Need-bitmap-start-requires
+bitmap-start-requires c κs = search needs
+
+bitmap-end-requires : tie.Need-bitmap-end-requires
+bitmap-end-requires c κs = search needs
+
+sub-is-set : tie.Need-sub-is-set
+sub-is-set c = rw (c .before .bitmap-start .ensures, c .bitmap-end .ensures) (starts _ _)
+
+part-is-set-start : tie.Need-part-is-set-start
+part-is-set-start c = sub-is-set (c .before)
+
+part-is-set-end : tie.Need-part-is-set-end
+part-is-set-end c = rw (c .before .bitmap-end .ensures, c .before .before .before .before .before .before .before .before .before .before .before .before .pre .1) (ends _ _)
+
+is-set-requires : tie.Need-is-set-requires
+is-set-requires c κs = search needs
+
+-- a slot starts at the offset, so freeing depends on whether it is live
+freeing : (c : tie.After-is-set)
+    → let s = c .before .before .before .before .before .before .before .before in
+    let a = s .before .before .before .before .before .before .args in
+    let l = s .before .locate .result in
+    free (a .layout) (a .metadata .now) (a .offset) ≡ cond (not (c .is-set .result)) (refused NotAllocated) (freed (l .class) (l .slot))
+freeing c =
+    let d = c .before .before .before .before .before in
+    let s = d .before .before .before in
+    at-start _ _ _ (inside (s .before .before)) (s .before .locate .ensures)
+    (rw (eq-eqb _ _ (d .before .if2 .left), lt-ltb _ _ (rw (s .slots .ensures .0) at (d .if3 .left))))
+    (tested-live _ _ _ (s .before .locate .ensures) (s .slots .ensures .0) (c .before .before .before .before .bitmap-start .ensures) (c .before .before .before .bitmap-end .ensures) (c .is-set .ensures))
+
+same-length : tie.Need-same-length
+same-length c = search needs
+
+returns-4 : tie.Need-returns-4
+returns-4 c = rw (freeing (c .before), c .if4 .taken) (refl, refl)
+
+sub-clear : tie.Need-sub-clear
+sub-clear c = sub-is-set (c .before .before .before .before)
+
+part-clear-start : tie.Need-part-clear-start
+part-clear-start c = sub-is-set (c .before .before .before .before)
+
+part-clear-end : tie.Need-part-clear-end
+part-clear-end c = part-is-set-end (c .before .before .before)
+
+clear-requires : tie.Need-clear-requires
+clear-requires c κs = search needs
+
+slot-size-requires : tie.Need-slot-size-requires
+slot-size-requires c κs = search needs
+
+cast-t26 : tie.Need-cast-t26
+cast-t26 c = rw (c .slot-size .ensures) (fits-below tt (slot-size-le _ _))
+
+same-length-2 : tie.Need-same-length-2
+same-length-2 c = search needs
+
+returns-5 : tie.Need-returns-5
+returns-5 c =
+    let cleared = c .before .before .before in
+    let e = cleared .before .before .before .before .before .before in
+    let s = e .before .before .before .before .before in
+    rw (freeing (c .before .before .before .before .before .before), c .before .before .before .before .before .if4 .left) (
+      rw (c .slot-size .ensures),
+      bitmap-back _ _ _ (λ b n. clearSlot b n (s .before .locate .result .slot)) (s .before .before .before .before .before .before .pre .1) (s .slots .ensures .0)
+          (e .before .bitmap-start .ensures) (e .bitmap-end .ensures) (cleared .clear .ensures) (cleared .clear .kept .0),
+    )
+
+pub free-spec : {M : Type 1} → statement M
+free-spec =
+    tie.close
+    (tie.spec
+    wide-requires
+    mul-if1
+    wide-requires-2
+    returns
+    locate-requires
+    slots-requires
+    returns-2
+    returns-3
+    bitmap-start-requires
+    bitmap-end-requires
+    sub-is-set
+    part-is-set-start
+    part-is-set-end
+    is-set-requires
+    same-length
+    returns-4
+    sub-clear
+    part-clear-start
+    part-clear-end
+    clear-requires
+    slot-size-requires
+    cast-t26
+    same-length-2
+    returns-5)

@@ -1,0 +1,76 @@
+-- `heap::object::space` meets its contract: the slot is live where its bit is set in the part lent as the bitmap, and then ends within the heap.
+use mathlib.Core.Path.{_≡_, _∙_}
+use native.Mathlib.Omega.{arith}
+use native.Mathlib.Nat.{le-of-lt}
+use borrow.Author.Needs.{needs}
+use Rattle.geometry.specs.Layout.{locate}
+use Rattle.geometry.proofs.Slots.{into-lt}
+use Rattle.rules.specs.Object.{isLive}
+use Rattle.heap.proofs.Live.{tested-live, live-lt, space-live, space-none}
+use Rattle.heap.proofs.Part.{starts, ends}
+use Rattle.heap.proofs.object.space.Statement.{statement}
+use Rattle.heap.proofs.object.space.Tie as tie
+
+locate-requires : tie.Need-locate-requires
+locate-requires c κs = search needs
+
+slots-requires : tie.Need-slots-requires
+slots-requires c κs = search needs
+
+bitmap-start-requires : tie.Need-bitmap-start-requires
+bitmap-start-requires c κs = search needs
+
+bitmap-end-requires : tie.Need-bitmap-end-requires
+bitmap-end-requires c κs = search needs
+
+sub-is-set : tie.Need-sub-is-set
+sub-is-set c = rw (c .before .bitmap-start .ensures, c .bitmap-end .ensures) (starts _ _)
+
+part-is-set-start : tie.Need-part-is-set-start
+part-is-set-start c = sub-is-set c
+
+part-is-set-end : tie.Need-part-is-set-end
+part-is-set-end c = rw (c .bitmap-end .ensures, c .before .before .before .before .before .pre .1) (ends _ _)
+
+is-set-requires : tie.Need-is-set-requires
+is-set-requires c κs = search needs
+
+-- the test says whether the slot is live
+live : (c : tie.After-is-set)
+    → let a = c .before .before .before .before .before .before .before .args in
+    isLive (a .layout) (a .metadata .now) (locate (a .layout) (a .offset)) ≡ c .is-set .result
+live c =
+    tested-live _ _ _ (c .before .before .before .before .before .locate .ensures) (c .before .before .before .before .slots .ensures .0) (c .before .before .before .bitmap-start .ensures) (c .before .before .bitmap-end .ensures) (c .is-set .ensures)
+
+slot-size-requires : tie.Need-slot-size-requires
+slot-size-requires c κs = search needs
+
+sub-result : tie.Need-sub-result
+sub-result c =
+    rw (c .slot-size .ensures, c .before .before .before .before .before .before .before .locate .ensures)
+    (le-of-lt (into-lt _ _ (live-lt _ _ _ (live (c .before .before) ∙ c .before .if1 .taken))))
+
+returns : tie.Need-returns
+returns c =
+    space-live _ _ _ (omega arith) (live (c .before .before) ∙ c .before .if1 .taken)
+    (rw (c .slot-size .ensures, c .before .before .before .before .before .before .before .locate .ensures))
+
+returns-2 : tie.Need-returns-2
+returns-2 c = space-none _ _ _ (omega arith) (live (c .before) ∙ c .if1 .left)
+
+pub space-spec : {M : Type 1} → statement M
+space-spec =
+    tie.close
+    (tie.spec
+    locate-requires
+    slots-requires
+    bitmap-start-requires
+    bitmap-end-requires
+    sub-is-set
+    part-is-set-start
+    part-is-set-end
+    is-set-requires
+    slot-size-requires
+    sub-result
+    returns
+    returns-2)

@@ -1,0 +1,92 @@
+// Allocating: a random slot of the smallest class that holds the size.
+use crate::fields;
+use crate::wide;
+use answer::Answer;
+use answer::Refusal;
+use geometry::CLASSES;
+use geometry::Layout;
+use mwc::Generator;
+use rules::Found;
+ghost use mathlib.Core.Path.{_≡_};
+ghost use Prim.Native.Nat.{_≤_, _<_};
+ghost use lib.ListN.{length};
+ghost use Rattle.geometry.specs.Layout.{classes, slots, slotStart, metadataLength};
+ghost use Rattle.answer.specs.Reply.{replyOf};
+ghost use Rattle.rules.specs.Outcome.{reply, metadataAfter};
+ghost use Rattle.rules.specs.Allocate.{draws, probe, taken, allocate};
+
+const DRAWS: usize = 32;
+
+// The slot that the draws choose, or the next clear one above the last slot tested where all of them meet set slots.
+fn search(bitmap: &[u8], slots: usize, start: Generator) -> Found
+    requires { ⌜ 0 < slots ⌝ }
+    ensures { λ r. ⌜ r ≡ probe (now (bitmap .entry)) slots start 0 draws ⌝ }
+{
+    let mut generator = start;
+    let mut last: usize = 0;
+    let mut left: usize = DRAWS;
+    while 0 < left {
+        generator = generator.advance();
+        last = wide(generator.draw()) % slots;
+        if !bitmap::is_set(bitmap, slots, last) {
+            return Found {
+                slot: last,
+                generator,
+            };
+        }
+        left -= 1;
+    }
+    Found {
+        slot: bitmap::next_clear(bitmap, slots, last),
+        generator,
+    }
+}
+
+// The value of a slot: where it starts in the heap.
+fn slot_start(layout: Layout, class: usize, slot: usize) -> u32
+    requires { ⌜ (layout .region ≤ 1048576) × (class < classes) × (slot ≤ slots layout class) ⌝ }
+    ensures { λ r. ⌜ r ≡ slotStart layout class slot ⌝ }
+{
+    (class * wide(layout.region) + slot * layout.slot_size(class)) as u32
+}
+
+// Takes a slot of a class: draws it, sets its bit and stores the generator.
+fn take(metadata: &mut [u8], layout: Layout, class: usize) -> Answer
+    requires { ⌜ (layout .region ≤ 1048576) × (length (now metadata) ≡ metadataLength layout) × (class < classes) × (0 < slots layout class) ⌝ }
+    ensures { λ r. ⌜ replyOf r ≡ reply layout (taken layout (now (metadata .entry)) class) ⌝ }
+    ensures { λ _. ⌜ now (metadata .exit) ≡ metadataAfter layout (now (metadata .entry)) (taken layout (now (metadata .entry)) class) ⌝ }
+{
+    let slots = layout.slots(class);
+    let start = layout.bitmap_start(class);
+    let end = layout.bitmap_end(class);
+    let seeds = fields::generator(metadata);
+    let found = search(&metadata[start..end], slots, seeds);
+    let slot = found.slot;
+    bitmap::set(&mut metadata[start..end], slots, slot);
+    fields::store(metadata, found.generator);
+    Answer::Served(slot_start(layout, class, slot))
+}
+
+pub fn allocate(metadata: &mut [u8], layout: Layout, size: u32) -> Answer
+    requires { ⌜ (layout .region ≤ 1048576) × (length (now metadata) ≡ metadataLength layout) ⌝ }
+    ensures { λ r. ⌜ replyOf r ≡ reply layout (allocate layout (now (metadata .entry)) size) ⌝ }
+    ensures { λ _. ⌜ now (metadata .exit) ≡ metadataAfter layout (now (metadata .entry)) (allocate layout (now (metadata .entry)) size) ⌝ }
+{
+    let class = layout.class_of(size);
+    if size == 0 {
+        return Answer::Refused(Refusal::UnsupportedSize);
+    }
+    if CLASSES <= class {
+        return Answer::Refused(Refusal::UnsupportedSize);
+    }
+    let slots = layout.slots(class);
+    if slots < 2 {
+        return Answer::Refused(Refusal::ClassTooSmall);
+    }
+    let start = layout.bitmap_start(class);
+    let end = layout.bitmap_end(class);
+    if slots / 2 <= bitmap::count(&metadata[start..end], slots) {
+        return Answer::Refused(Refusal::ClassAtCapacity);
+    }
+    take(metadata, layout, class)
+}

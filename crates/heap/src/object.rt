@@ -1,0 +1,68 @@
+// Freeing an object, and its remaining size.
+use crate::wide;
+use answer::Answer;
+use answer::Refusal;
+use geometry::CLASSES;
+use geometry::Layout;
+ghost use mathlib.Core.Path.{_≡_};
+ghost use Prim.Native.Nat.{_+_, _≤_, _<_};
+ghost use lib.ListN.{length};
+ghost use Rattle.geometry.specs.Layout.{heapLength, metadataLength};
+ghost use Rattle.answer.specs.Reply.{replyOf};
+ghost use Rattle.rules.specs.Outcome.{reply, metadataAfter};
+ghost use Rattle.rules.specs.Object.{space, free, remaining};
+
+pub fn free(metadata: &mut [u8], layout: Layout, offset: u32) -> Answer
+    requires { ⌜ (layout .region ≤ 1048576) × (length (now metadata) ≡ metadataLength layout) ⌝ }
+    ensures { λ r. ⌜ replyOf r ≡ reply layout (free layout (now (metadata .entry)) offset) ⌝ }
+    ensures { λ _. ⌜ now (metadata .exit) ≡ metadataAfter layout (now (metadata .entry)) (free layout (now (metadata .entry)) offset) ⌝ }
+{
+    if CLASSES * wide(layout.region) <= wide(offset) {
+        return Answer::Refused(Refusal::OutOfRange);
+    }
+    let at = layout.locate(offset);
+    let class = at.class;
+    let slot = at.slot;
+    let slots = layout.slots(class);
+    if at.into != 0 {
+        return Answer::Refused(Refusal::NotASlotStart);
+    }
+    if slots <= slot {
+        return Answer::Refused(Refusal::NotASlotStart);
+    }
+    let start = layout.bitmap_start(class);
+    let end = layout.bitmap_end(class);
+    if !bitmap::is_set(&metadata[start..end], slots, slot) {
+        return Answer::Refused(Refusal::NotAllocated);
+    }
+    bitmap::clear(&mut metadata[start..end], slots, slot);
+    Answer::Served(layout.slot_size(class) as u32)
+}
+
+// The bytes from an offset of the heap to the end of the live object that it lies in; 0 where it lies in none.
+pub fn space(metadata: &[u8], layout: Layout, offset: u32) -> usize
+    requires { ⌜ (layout .region ≤ 1048576) × (length (now metadata) ≡ metadataLength layout) × (offset < heapLength layout) ⌝ }
+    ensures { λ r. ⌜ (r ≡ space layout (now (metadata .entry)) offset) × (offset + r ≤ heapLength layout) × (r ≤ 16384) ⌝ }
+{
+    let at = layout.locate(offset);
+    let class = at.class;
+    let slot = at.slot;
+    let into = at.into;
+    let slots = layout.slots(class);
+    let start = layout.bitmap_start(class);
+    let end = layout.bitmap_end(class);
+    if bitmap::is_set(&metadata[start..end], slots, slot) {
+        return layout.slot_size(class) - into;
+    }
+    0
+}
+
+pub fn remaining(metadata: &[u8], layout: Layout, offset: u32) -> Answer
+    requires { ⌜ (layout .region ≤ 1048576) × (length (now metadata) ≡ metadataLength layout) ⌝ }
+    ensures { λ r. ⌜ replyOf r ≡ reply layout (remaining layout (now (metadata .entry)) offset) ⌝ }
+{
+    if CLASSES * wide(layout.region) <= wide(offset) {
+        return Answer::Refused(Refusal::OutOfRange);
+    }
+    Answer::Served(space(metadata, layout, offset) as u32)
+}

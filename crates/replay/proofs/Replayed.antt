@@ -1,0 +1,150 @@
+-- A batch served request by request.
+use Prim.Native.Nat.{ℕ, suc, _+_, _*_, _-_, _^_, _≤_, _<_, min}
+use native.Mathlib.Nat.{le-of-lt, min-eq-left, min-eq-right}
+use native.Mathlib.Decide.{decLt}
+use native.Mathlib.Omega.{arith}
+use mathlib.Core.Path.{_≡_, refl, sym, ap, _∙_}
+use mathlib.Core.Bool.{and-false}
+use mathlib.Core.List.{List, [], _++_, append-assoc, append-nil}
+use lib.ListN.{length, take, drop, length-append, length-drop, drop-of-length-le}
+use lib.Seq.{take-all, take-length, drop-length, drop-drop}
+use borrow.Author.Tests.{lt-ltb, le-ltb, le-leb, lt-leb}
+use Rattle.rules.specs.Metadata.{overwrite}
+use Rattle.replay.specs.Line.{lineRoom, lineFor}
+use Rattle.replay.specs.Batch.{State, served, requests, lines, after, accepted, batchLines, batchAfter}
+use Rattle.replay.proofs.Writing.{Wrote, wrote-then, wrote-from, wrote-length}
+
+module _ (room number : ℕ) (input : List ℕ) where
+  -- a batch serves all requests where there is room for their lines and for their numbers
+  pub accepted-all : requests input * lineRoom ≤ room → number + requests input < 2 ^ 64 → requests input ≡ accepted room number input
+  accepted-all h l = rw (le-leb (requests input * lineRoom) room h, lt-ltb (number + requests input) (2 ^ 64) l)
+
+  -- none where there is no room for the lines
+  pub accepted-no-room : room < requests input * lineRoom → 0 ≡ accepted room number input
+  accepted-no-room h = rw (lt-leb (requests input * lineRoom) room h)
+
+  -- none where there is none for the numbers
+  pub accepted-no-numbers : 2 ^ 64 ≤ number + requests input → 0 ≡ accepted room number input
+  accepted-no-numbers h = rw (le-ltb (number + requests input) (2 ^ 64) h, and-false)
+
+-- to take or drop no more than a list has changes nothing
+module _ (n : ℕ) (xs : List ℕ) where
+  take-min : take (min n (length xs)) xs ≡ take n xs
+  take-min = elim (decLt n (length xs)) [
+    | yes h ↦ rw (min-eq-left (le-of-lt h))
+    | no h ↦
+        let all : length xs ≤ n = omega arith in
+        rw (min-eq-right all, take-length) (sym (take-all n xs all))
+  ]
+
+  drop-min : drop (min n (length xs)) xs ≡ drop n xs
+  drop-min = elim (decLt n (length xs)) [
+    | yes h ↦ rw (min-eq-left (le-of-lt h))
+    | no h ↦
+        let all : length xs ≤ n = omega arith in
+        rw (min-eq-right all, drop-length) (sym (drop-of-length-le xs all))
+  ]
+
+-- a request starts at a place and ends sixteen bytes on, or where the input ends
+module _ (input : List ℕ) (at end : ℕ) (e : end ≡ at + min 16 (length input - at)) where
+  -- the request
+  pub request-part : take (end - at) (drop at input) ≡ take 16 (drop at input)
+  request-part =
+      let size : end - at ≡ min 16 (length (drop at input)) = rw length-drop (omega arith) in
+      rw size (take-min 16 (drop at input))
+
+  -- what comes after it
+  request-rest : drop end input ≡ drop 16 (drop at input)
+  request-rest = rw (e, ← drop-drop, ← length-drop) (drop-min 16 (drop at input))
+
+-- one of the requests that are left is served
+module _ (left : ℕ) (now : State) (input : List ℕ) (some : 0 < left) where
+  one-more : left ≡ suc (left - 1)
+  one-more = omega arith
+
+  lines-more : (next : ℕ)
+      → lines left now next input
+      ≡ lineFor (length (now .heap)) (now .metadata) (take 16 input) next ++ lines (left - 1) (served now (take 16 input)) (next + 1) (drop 16 input)
+  unfolding lines
+  lines-more next = ap (λ (k : ℕ). lines k now next input) one-more
+
+  after-more : after left now input ≡ after (left - 1) (served now (take 16 input)) (drop 16 input)
+  unfolding after
+  after-more = ap (λ (k : ℕ). after k now input) one-more
+
+-- part of a batch is served and `text` written: `left` requests from `at` on are left, numbered from `next` on
+pub record Replayed (before : State) (number : ℕ) (input out₀ : List ℕ) (now : State) (out : List ℕ) (left next at written : ℕ) : Type 0 where
+  pub text : List ℕ
+  pub wrote : Wrote out₀ out 0 text
+  pub size : written ≡ length text
+  pub text-rest : batchLines (length out₀) before number input ≡ text ++ lines left now next (drop at input)
+  pub state-rest : batchAfter (length out₀) before number input ≡ after left now (drop at input)
+  pub within : at ≤ length input
+  pub room : written + left * lineRoom ≤ length out
+  pub numbers : next + left < 2 ^ 64
+  pub out-kept : length out ≡ length out₀
+  pub heap-kept : length (now .heap) ≡ length (before .heap)
+  pub metadata-kept : length (now .metadata) ≡ length (before .metadata)
+
+module _ {before : State} {number : ℕ} {input out₀ : List ℕ} where
+  -- nothing is served yet
+  pub replayed-none : {left : ℕ} → left ≡ accepted (length out₀) number input → left * lineRoom ≤ length out₀ → number + left < 2 ^ 64
+      → Replayed before number input out₀ before out₀ left number 0 0
+  replayed-none e room numbers =
+      record {
+        text = [];
+        wrote = record { bytes = refl; room = omega arith };
+        size = refl;
+        text-rest = rw e;
+        state-rest = rw e;
+        within = omega arith;
+        room = omega arith;
+        numbers = numbers;
+        out-kept = refl;
+        heap-kept = refl;
+        metadata-kept = refl;
+      }
+
+  module _ {now : State} {out : List ℕ} {left next at written : ℕ} (p : Replayed before number input out₀ now out left next at written) where
+    -- all is served
+    pub replayed-lines : left ≤ 0 → batchLines (length out₀) before number input ≡ p .text
+    unfolding lines
+    replayed-lines h =
+        let none : left ≡ 0 = omega arith in
+        p .text-rest ∙ rw none (append-nil (p .text))
+
+    pub replayed-state : left ≤ 0 → batchAfter (length out₀) before number input ≡ now
+    unfolding after
+    replayed-state h =
+        let none : left ≡ 0 = omega arith in
+        p .state-rest ∙ rw none
+
+    -- one request more is served, and its line written
+    pub replayed-more : 0 < left → {end r : ℕ} {w heap metadata : List ℕ} → end ≡ at + min 16 (length input - at)
+        → let request = take 16 (drop at input) in
+        let line = lineFor (length (now .heap)) (now .metadata) request next in
+        r ≡ length line → r ≤ lineRoom → w ≡ overwrite (take (length out - written) (drop written out)) 0 line
+        → metadata ≡ served now request .metadata → heap ≡ served now request .heap
+        → length metadata ≡ length (now .metadata) → length heap ≡ length (now .heap)
+        → Replayed before number input out₀ (record { heap = heap; metadata = metadata })
+        (take written out ++ (w ++ drop (length out - written) (drop written out))) (left - 1) (next + 1) end (written + r)
+    replayed-more some {end} {r} {w} {heap} {metadata} e size small bytes f g m h =
+        let request : List ℕ = take 16 (drop at input) in
+        let line : List ℕ = lineFor (length (now .heap)) (now .metadata) request next in
+        let state : _≡_ {A = State} (record { heap = heap; metadata = metadata }) (served now request) = λ i. record { heap = g i; metadata = f i } in
+        let one = wrote-from out line written bytes (omega arith) in
+        let all = wrote-then (p .wrote) one (omega arith) in
+        let kept = wrote-length all in
+        record {
+          text = p .text ++ line;
+          wrote = all;
+          size = rw (length-append, size, p .size);
+          text-rest = p .text-rest ∙ rw (lines-more left now (drop at input) some next, state, request-rest input at end e) (sym (append-assoc (p .text) line _));
+          state-rest = p .state-rest ∙ rw (after-more left now (drop at input) some, state, request-rest input at end e);
+          within = omega arith;
+          room = omega arith;
+          numbers = omega arith;
+          out-kept = kept;
+          heap-kept = omega arith;
+          metadata-kept = omega arith;
+        }

@@ -1,0 +1,70 @@
+use borrow.Author.Needs.{needs}
+use mathlib.Core.Path.{_≡_, refl, ap, _∙_}
+use borrow.Author.Tests.{le-leb, lt-leb}
+use lib.ListN.{length}
+use Prim.Native.Nat.{ℕ, zero-le}
+use native.Mathlib.Omega.{arith}
+use Rattle.rules.specs.Metadata.{overwrite}
+use Rattle.answer.specs.Reply.{Reply}
+use Rattle.replay.specs.Line.{lineOf, lineRoom}
+use Rattle.replay.proofs.step.Statement.{statement}
+use Rattle.replay.proofs.step.Tie as tie
+
+-- replies with the same numbers are the same
+reply-path : {r : Reply} {n v : ℕ} → n ≡ r .number → v ≡ r .value → _≡_ {A = Reply} (record { number = n; value = v }) r
+reply-path p q = λ i. record { number = p i; value = q i }
+
+returns : tie.Need-returns
+returns c = rw (lt-leb lineRoom _ (c .if1 .taken)) ((refl, zero-le, zero-le), (refl, (refl, refl)))
+
+slice-aggregate-serve : tie.Need-slice-aggregate-serve
+slice-aggregate-serve c = search needs
+
+serve-requires : tie.Need-serve-requires
+serve-requires c κs = search needs
+
+number-requires : tie.Need-number-requires
+number-requires c κs = search needs
+
+value-requires : tie.Need-value-requires
+value-requires c κs = search needs
+
+put-line-requires : tie.Need-put-line-requires
+put-line-requires c κs = search needs
+
+same-length : tie.Need-same-length
+same-length c = search needs
+
+same-length-2 : tie.Need-same-length-2
+same-length-2 c = search needs
+
+same-length-3 : tie.Need-same-length-3
+same-length-3 c = search needs
+
+returns-2 : tie.Need-returns-2
+returns-2 c =
+    let a = c .before .before .before .before .before .before .before .before .before .before .before .before .before .before .before .before .before .before .before .args in
+    let served = c .before .before .before .before .before .before .before .before .before .before .serve .ensures in
+    let line = c .before .before .put-line .ensures in
+    let number = c .before .before .before .before .number .ensures ∙ ap (λ (r : Reply). r .number) (served .0) in
+    let value = c .before .before .before .value .ensures ∙ ap (λ (r : Reply). r .value) (served .0) in
+    let shown = reply-path number value in
+    rw (le-leb lineRoom _ (c .before .before .before .before .before .before .before .before .before .before .before .before .before .before .if1 .left)) (
+      (line .0 .0 ∙ ap (λ (r : Reply). length (lineOf (a .number) r)) shown, omega arith, omega arith),
+      (line .1 ∙ ap (λ (r : Reply). overwrite (a .out .now) 0 (lineOf (a .number) r)) shown, served .1),
+    )
+
+pub step-spec : {M : Type 1} → statement M
+step-spec =
+    tie.close
+    (tie.spec
+    returns
+    slice-aggregate-serve
+    serve-requires
+    number-requires
+    value-requires
+    put-line-requires
+    same-length
+    same-length-2
+    same-length-3
+    returns-2)

@@ -1,0 +1,133 @@
+// Replaying requests: each is served and answered by a line of text.
+ghost use mathlib.Core.Path.{_≡_};
+ghost use Prim.Native.Nat.{suc, _+_, _-_, _*_, _^_, _<_, _≤_, min};
+ghost use lib.ListN.{length};
+ghost use Rattle.decimal.specs.Decimal.{width, decimal};
+ghost use mathlib.Core.Bool.{cond};
+ghost use mathlib.Core.List.{[]};
+ghost use Rattle.geometry.specs.Layout.{layoutOf};
+ghost use Rattle.rules.specs.Metadata.{overwrite};
+ghost use Rattle.rules.specs.Outcome.{metadataAfter, heapAfter};
+ghost use Rattle.rules.specs.Serve.{serve};
+ghost use Rattle.replay.specs.Line.{field, lineOf, lineRoom, hasRoom, lineFor};
+ghost use Rattle.replay.specs.Batch.{accepted, batchLines, batchAfter};
+
+const WIDTH: usize = 20;
+
+// Room for any line.
+pub const LINE_ROOM: usize = 3 * (WIDTH + 1);
+
+// The bytes of a request.
+const REQUEST: usize = 16;
+
+// Writes a number at a place, and answers the place after it.
+fn put_number(out: &mut [u8], at: usize, n: u64) -> usize
+    requires { ⌜ at + width ≤ length (now out) ⌝ }
+    ensures { λ r. ⌜ (r ≡ at + length (decimal n)) × (r ≤ at + width) ⌝ }
+    ensures { λ _. ⌜ now (out .exit) ≡ overwrite (now (out .entry)) at (decimal n) ⌝ }
+{
+    let digits = decimal::of(n);
+    let text = digits.text;
+    let start = digits.start;
+    let end = at + (WIDTH - start);
+    bytes::copy(&text[start..WIDTH], &mut out[at..end]);
+    end
+}
+
+// Writes a number and a byte after it, and answers the place after both.
+fn put_field(out: &mut [u8], at: usize, n: u64, mark: u8) -> usize
+    requires { ⌜ at + suc width ≤ length (now out) ⌝ }
+    ensures { λ r. ⌜ (r ≡ at + length (field n mark)) × (r ≤ at + suc width) ⌝ }
+    ensures { λ _. ⌜ now (out .exit) ≡ overwrite (now (out .entry)) at (field n mark) ⌝ }
+{
+    let end = put_number(out, at, n);
+    out[end] = mark;
+    end + 1
+}
+
+// Writes a line at the front.
+fn put_line(out: &mut [u8], number: u64, refusal: u32, value: u32) -> usize
+    requires { ⌜ lineRoom ≤ length (now out) ⌝ }
+    ensures { λ r. ⌜ (r ≡ length (lineOf number (record { number = refusal; value = value }))) × (r ≤ lineRoom) ⌝ }
+    ensures { λ _. ⌜ now (out .exit) ≡ overwrite (now (out .entry)) 0 (lineOf number (record { number = refusal; value = value })) ⌝ }
+{
+    let second = put_field(out, 0, number, b' ');
+    let third = put_field(out, second, refusal as u64, b' ');
+    put_field(out, third, value as u64, b'\n')
+}
+
+// Serves a request with an empty source and writes its line at the front of the output. Where the output has no room for a line, nothing is
+// served or written, and the answer is 0.
+pub fn step(
+    heap: &mut [u8],
+    metadata: &mut [u8],
+    request: &[u8],
+    number: u64,
+    out: &mut [u8],
+) -> usize
+    ensures { λ r. ⌜ (r ≡ cond (hasRoom (length (now (out .entry)))) (length (lineFor (length (now (heap .entry))) (now (metadata .entry)) (now (request .entry)) number)) 0) × (r ≤ length (now (out .entry))) × (r ≤ lineRoom) ⌝ }
+    ensures { λ _. ⌜ now (out .exit) ≡ cond (hasRoom (length (now (out .entry)))) (overwrite (now (out .entry)) 0 (lineFor (length (now (heap .entry))) (now (metadata .entry)) (now (request .entry)) number)) (now (out .entry)) ⌝ }
+    ensures { λ _. ⌜ now (metadata .exit) ≡ cond (hasRoom (length (now (out .entry)))) (metadataAfter (layoutOf (length (now (heap .entry)))) (now (metadata .entry)) (serve (length (now (heap .entry))) (now (metadata .entry)) (now (request .entry)) [])) (now (metadata .entry)) ⌝ }
+    ensures { λ _. ⌜ now (heap .exit) ≡ cond (hasRoom (length (now (out .entry)))) (heapAfter (now (heap .entry)) (serve (length (now (heap .entry))) (now (metadata .entry)) (now (request .entry)) [])) (now (heap .entry)) ⌝ }
+{
+    if out.len() < LINE_ROOM {
+        return 0;
+    }
+    let answer = heap::serve(heap, metadata, request, b"");
+    put_line(out, number, answer.number(), answer.value())
+}
+
+// How many requests of an input a batch serves: all, or none.
+fn accepted(input: &[u8], number: u64, room: usize) -> usize
+    ensures { λ r. ⌜ r ≡ accepted room number (now (input .entry)) ⌝ }
+    ensures { λ r. ⌜ (r * lineRoom ≤ room) × (number + r < 2 ^ 64) ⌝ }
+{
+    let count = input.len() / REQUEST + (input.len() % REQUEST + (REQUEST - 1)) / REQUEST;
+    if room / LINE_ROOM < count {
+        return 0;
+    }
+    if u64::MAX - number < count as u64 {
+        return 0;
+    }
+    count
+}
+
+// Where the request ends that starts at a place: the last may be shorter.
+fn request_end(at: usize, len: usize) -> usize
+    requires { ⌜ at ≤ len ⌝ }
+    ensures { λ r. ⌜ r ≡ at + min 16 (len - at) ⌝ }
+{
+    if len - at < REQUEST {
+        len
+    } else {
+        at + REQUEST
+    }
+}
+
+// Serves every request of the input with an empty source, writes their lines one after another at the front of the output, and answers how
+// many bytes it wrote. Where the output may be too short for the lines, or 64 bits for the numbers, nothing is served or written.
+pub fn batch(
+    heap: &mut [u8],
+    metadata: &mut [u8],
+    input: &[u8],
+    number: u64,
+    out: &mut [u8],
+) -> usize
+    ensures { λ r. ⌜ (r ≡ length (batchLines (length (now (out .entry))) (record { heap = now (heap .entry); metadata = now (metadata .entry) }) number (now (input .entry)))) × (r ≤ length (now (out .exit))) ⌝ }
+    ensures { λ _. ⌜ now (out .exit) ≡ overwrite (now (out .entry)) 0 (batchLines (length (now (out .entry))) (record { heap = now (heap .entry); metadata = now (metadata .entry) }) number (now (input .entry))) ⌝ }
+    ensures { λ _. ⌜ now (metadata .exit) ≡ batchAfter (length (now (out .entry))) (record { heap = now (heap .entry); metadata = now (metadata .entry) }) number (now (input .entry)) .metadata ⌝ }
+    ensures { λ _. ⌜ now (heap .exit) ≡ batchAfter (length (now (out .entry))) (record { heap = now (heap .entry); metadata = now (metadata .entry) }) number (now (input .entry)) .heap ⌝ }
+{
+    let mut left = accepted(input, number, out.len());
+    let mut next = number;
+    let mut at: usize = 0;
+    let mut written: usize = 0;
+    while left > 0 {
+        let end = request_end(at, input.len());
+        written += step(heap, metadata, &input[at..end], next, &mut out[written..]);
+        at = end;
+        next += 1;
+        left -= 1;
+    }
+    written
+}

@@ -1,0 +1,9 @@
+pub mod Metadata
+pub mod Finding
+pub mod Effects
+pub mod Results
+pub mod Serving
+pub mod Pairing
+pub mod Objects
+pub mod Tracking
+pub mod Runs

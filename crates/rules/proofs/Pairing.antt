@@ -1,0 +1,75 @@
+-- One request of each of two runs from the same metadata: the steps are equal exactly when the requests pair.
+use Prim.Native.Nat.{ℕ}
+use mathlib.Core.Path.{_≡_, refl, sym, ap, subst, _∙_}
+use mathlib.Core.List.{List}
+use lib.ListN.{length}
+use Rattle.geometry.specs.declared.Layout.{Layout}
+use Rattle.geometry.specs.Layout.{classOf, metadataLength}
+use Rattle.request.specs.declared.Request.{Request}
+use Rattle.request.specs.declared.Request.the-variants.{Allocate}
+use Rattle.request.specs.declared.Parsed.{Parsed}
+use Rattle.request.specs.declared.Parsed.the-variants.{Whole}
+use Rattle.rules.specs.Outcome.{Outcome, refused, allocated, freed, told, reply, metadataAfter}
+use Rattle.rules.specs.Allocate.{taken}
+use Rattle.rules.specs.Serve.{act}
+use Rattle.rules.specs.Pair.{Measures, Pair, allocations, frees, measurings, refusals}
+use Rattle.answer.proofs.Numbers.{refusal-number}
+use Rattle.rules.proofs.Results.{Change, Result, refusal, allocation, freeing, measuring, result, made, same-change, stepBy, eventBy}
+
+module _ (G : Layout) (m : List ℕ) where
+  -- a served allocation goes by the class alone, and a measuring and a refusal change nothing
+  allocation-class : {o : Outcome} {x : Change} (size : ℕ) → Result G m (Whole (Allocate size)) o x → reply G o .number ≡ 0
+      → o ≡ taken G m (classOf G size)
+  allocation-class size (refusal _ r) e = absurd (refusal-number r e)
+  allocation-class size (allocation _ c found t) e = cc
+  allocation-class size (measuring _ h value offset bytes) e = absurd h
+
+  measuring-keeps : {o : Outcome} {x : Change} (q : Request) → Result G m (Whole q) o x → Measures q → metadataAfter G m o ≡ m
+  measuring-keeps q (refusal _ r) h = refl
+  measuring-keeps q (allocation size c found t) h = absurd h
+  measuring-keeps q (freeing offset start t) h = absurd h
+  measuring-keeps q (measuring _ _ value offset bytes) h = refl
+
+  refusal-keeps : (o : Outcome) → (reply G o .number ≡ 0 → ⊥) → (reply G o .value ≡ 0) × (metadataAfter G m o ≡ m)
+  refusal-keeps (refused r) h = (refl, refl)
+  refusal-keeps (allocated c i g) h = absurd (h refl)
+  refusal-keeps (freed c i) h = absurd (h refl)
+  refusal-keeps (told value offset bytes) h = absurd (h refl)
+
+  -- results with one change and one reply pair
+  result-pair : {p q : Parsed} {o o′ : Outcome} {x : Change} → Result G m p o x → Result G m q o′ x
+      → reply G o .number ≡ reply G o′ .number → reply G o .value ≡ reply G o′ .value → Pair G (eventBy G p o) (eventBy G q o′)
+  result-pair (refusal p r) (refusal q r′) e v = refusals (refusal-number r) e
+  result-pair (refusal p r) (measuring b k value offset bytes) e v = absurd (refusal-number r e)
+  result-pair (measuring a h value offset bytes) (refusal q r) e v = absurd (refusal-number r (sym e))
+  result-pair (measuring a h value offset bytes) (measuring b k value′ offset′ bytes′) e v = measurings a b refl refl h k refl refl v
+  result-pair (allocation s c found takes) (allocation t d found′ takes′) e v = allocations s t refl refl (cc) refl refl
+  result-pair (freeing offset start ends) (freeing offset′ start′ ends′) e v = frees offset refl (cc) refl refl
+
+  module _ (fits : length m ≡ metadataLength G) (source source′ : List ℕ) (p q : Parsed) where
+    -- pairs have equal steps
+    pub pair-steps : Pair G (eventBy G p (act G m source p)) (eventBy G q (act G m source′ q))
+        → stepBy G m (act G m source p) ≡ stepBy G m (act G m source′ q)
+    pair-steps (allocations s t e e′ c h k) =
+        let left = allocation-class s (result G m fits source (Whole (Allocate s)) .1) (rw e at h) in
+        let right = allocation-class t (result G m fits source′ (Whole (Allocate t)) .1) (rw e′ at k) in
+        rw (e, e′, left, right, c)
+    pair-steps (frees offset e e′ h k) = rw (e, e′)
+    pair-steps (measurings a b e e′ h k s s′ v) =
+        let left : metadataAfter G m (act G m source p) ≡ m = rw e (measuring-keeps a (result G m fits source (Whole a) .1) h) in
+        let right : metadataAfter G m (act G m source′ q) ≡ m = rw e′ (measuring-keeps b (result G m fits source′ (Whole b) .1) k) in
+        λ i. record { answer = record { number = (s ∙ sym s′) i; value = v i }; metadata = (left ∙ sym right) i }
+    pair-steps (refusals h e) =
+        let (value, left) = refusal-keeps (act G m source p) h in
+        let (value′, right) = refusal-keeps (act G m source′ q) (λ z. h (e ∙ z)) in
+        λ i. record { answer = record { number = e i; value = (value ∙ sym value′) i }; metadata = (left ∙ sym right) i }
+
+    -- and only pairs
+    pub steps-pair : stepBy G m (act G m source p) ≡ stepBy G m (act G m source′ q)
+        → Pair G (eventBy G p (act G m source p)) (eventBy G q (act G m source′ q))
+    steps-pair e =
+        let (x, left) = result G m fits source p in
+        let (y, right) = result G m fits source′ q in
+        let same : y ≡ x = same-change G m _ y x (rw (ap (λ s. s .metadata) e) (made G m fits right)) (made G m fits left) in
+        result-pair left (subst (Result G m q (act G m source′ q)) same right)
+        (ap (λ s. s .answer .number) e) (ap (λ s. s .answer .value) e)

@@ -1,0 +1,132 @@
+-- What a request comes to, and what that does to the slots.
+use Prim.Native.Nat.{ℕ, min, _+_, _<_}
+use mathlib.Core.Path.{_≡_, refl}
+use mathlib.Core.Bool.{Bool, true, false, cond}
+use mathlib.Core.List.{List, []}
+use mathlib.Core.Logic.{Dec·and}
+use native.Mathlib.Decide.{ℕ-discrete}
+use native.Mathlib.Omega.{arith}
+use lib.ListN.{length, take}
+use Rattle.mwc.specs.declared.Generator.{Generator}
+use Rattle.geometry.specs.declared.Layout.{Layout}
+use Rattle.geometry.specs.Layout.{classOf, slots, slotStart, locate, metadataLength}
+use Rattle.request.specs.declared.Request.{Request}
+use Rattle.request.specs.declared.Request.the-variants.{Allocate, Free, Remaining, CopyBytes, CopyString, CopyPadded}
+use Rattle.request.specs.declared.Parsed.{Parsed}
+use Rattle.request.specs.declared.Parsed.the-variants.{Whole, Malformed}
+use Rattle.answer.specs.declared.Refusal.{Refusal}
+use Rattle.rules.specs.Outcome.{Outcome, refused, allocated, freed, told, reply, metadataAfter}
+use Rattle.rules.specs.Allocate.{taken, allocate}
+use Rattle.rules.specs.declared.Kind.the-variants.{String, Padded}
+use Rattle.rules.specs.Object.{space, free, remaining, copy, contentOf}
+use Rattle.rules.specs.Serve.{act}
+use Rattle.rules.specs.Run.{Step, Event}
+use Rattle.rules.specs.Pair.{Measures}
+use Rattle.rules.proofs.Effects.{liveBit, Takes, Ends, Changed, allocate-takes, allocate-changes, free-ends, free-changes}
+
+-- ---- a request's outcome
+
+-- what a request does to the slots: nothing, or slot i of class c is now v
+pub data Change : Type 0 where
+  none : Change
+  now : (v c i : ℕ) → Change
+
+-- each request with its outcome and its change
+pub data Result (G : Layout) (m : List ℕ) : Parsed → Outcome → Change → Type 0 where
+  refusal : (p : Parsed) (r : Refusal) → Result G m p (refused r) none
+  allocation : (size : ℕ) {c i : ℕ} {g : Generator} → c ≡ classOf G size → allocated c i g ≡ taken G m c → Takes G m c i
+      → Result G m (Whole (Allocate size)) (allocated c i g) (now 1 c i)
+  freeing : (offset : ℕ) {c i : ℕ} → offset ≡ slotStart G c i → Ends G m c i → Result G m (Whole (Free offset)) (freed c i) (now 0 c i)
+  measuring : (q : Request) → Measures q → (value offset : ℕ) (bytes : List ℕ) → Result G m (Whole q) (told value offset bytes) none
+
+-- an outcome's step, and its event
+abbrev pub stepBy : Layout → List ℕ → Outcome → Step
+stepBy G m o = record { answer = reply G o; metadata = metadataAfter G m o }
+
+abbrev pub eventBy : Layout → Parsed → Outcome → Event
+eventBy G p o = record { asked = p; answer = reply G o }
+
+-- an operation's outcome is a refusal or the one that it serves
+pub data Comes (o : Outcome) : Outcome → Type 0 where
+  refuses : (r : Refusal) → Comes o (refused r)
+  serves : Comes o o
+
+-- a test may refuse what comes after it
+guarded : {o o′ : Outcome} (t : Bool) (r : Refusal) → Comes o o′ → Comes o (cond t (refused r) o′)
+guarded true r h = refuses r
+guarded false r h = h
+
+module _ (G : Layout) (m : List ℕ) where
+  -- what each operation serves
+  pub allocate-comes : (size : ℕ) → Comes (taken G m (classOf G size)) (allocate G m size)
+  unfolding allocate
+  allocate-comes size = search (guarded, serves)
+
+  pub free-comes : (offset : ℕ) → Comes (freed (locate G offset .class) (locate G offset .slot)) (free G m offset)
+  unfolding free
+  free-comes offset = search (guarded, serves)
+
+  pub remaining-comes : (offset : ℕ) → Comes (told (space G m offset) offset []) (remaining G m offset)
+  unfolding remaining
+  remaining-comes offset = search (guarded, serves)
+
+  pub copy-comes : (offset : ℕ) (content : List ℕ)
+      → let n = min (length content) (space G m offset) in Comes (told n offset (take n content)) (copy G m offset content)
+  unfolding copy
+  copy-comes offset content = search (guarded, serves)
+
+  -- so a served outcome's result is enough
+  served-or-refused : (p : Parsed) {o o′ : Outcome} → Comes o o′ → (o′ ≡ o → (x : Change) × Result G m p o x) → (x : Change) × Result G m p o′ x
+  served-or-refused p (refuses r) f = (none, refusal p r)
+  served-or-refused p serves f = f refl
+
+  -- every request has a result
+  pub result : length m ≡ metadataLength G → (source : List ℕ) (p : Parsed) → (x : Change) × Result G m p (act G m source p) x
+  result fits source (Whole (Allocate size)) =
+      served-or-refused _ (allocate-comes size)
+      (λ e. let (class, takes) = allocate-takes G m fits size e in (now 1 _ _, allocation size class refl takes))
+  result fits source (Whole (Free offset)) =
+      served-or-refused _ (free-comes offset)
+      (λ e. let (start, ends) = free-ends G m fits offset e in (now 0 _ _, freeing offset start ends))
+  result fits source (Whole (Remaining offset)) = served-or-refused _ (remaining-comes offset) (λ e. (none, measuring _ tt _ _ _))
+  result fits source (Whole (CopyBytes offset)) = served-or-refused _ (copy-comes offset source) (λ e. (none, measuring _ tt _ _ _))
+  result fits source (Whole (CopyString offset)) =
+      served-or-refused _ (copy-comes offset (contentOf String source)) (λ e. (none, measuring _ tt _ _ _))
+  result fits source (Whole (CopyPadded offset count)) =
+      served-or-refused _ (copy-comes offset (contentOf (Padded count) source)) (λ e. (none, measuring _ tt _ _ _))
+  result fits source Malformed = (none, refusal Malformed _)
+
+-- ---- a change, in the metadata
+
+-- what a change finds and leaves
+abbrev pub Made : Layout → List ℕ → List ℕ → Change → Type 0
+Made G m m′ none = m′ ≡ m
+Made G m m′ (now v c i) = (i < slots G c) × (liveBit G m c i + v ≡ 1) × Changed G m m′ c i v
+
+-- each result makes its change
+pub made : (G : Layout) (m : List ℕ) → length m ≡ metadataLength G → {p : Parsed} {o : Outcome} {x : Change}
+    → Result G m p o x → Made G m (metadataAfter G m o) x
+made G m fits (refusal p r) = refl
+made G m fits (allocation size {g} c found t) = (t .slot, omega arith, allocate-changes G m fits g t)
+made G m fits (freeing offset start t) = (t .slot, omega arith, free-changes G m fits t)
+made G m fits (measuring q h value offset bytes) = refl
+
+module _ (G : Layout) (m m′ : List ℕ) where
+  -- the metadata keeps its length
+  pub made-length : (x : Change) → Made G m m′ x → length m′ ≡ length m
+  made-length none e = rw e
+  made-length (now v c i) h = h .2 .fits
+
+  -- a slot's bit does change
+  moved : {v c i : ℕ} → Made G m m′ (now v c i) → liveBit G m′ c i ≡ liveBit G m c i → ⊥
+  moved h e = let here = h .2 .here in omega arith
+
+  -- the metadata before and after tell the change
+  pub same-change : (x y : Change) → Made G m m′ x → Made G m m′ y → x ≡ y
+  same-change none none h k = refl
+  same-change none (now v c i) h k = absurd (moved k (rw h))
+  same-change (now v c i) none h k = absurd (moved h (rw k))
+  same-change (now v c i) (now w d j) h k = elim (Dec·and (ℕ-discrete c d) (ℕ-discrete i j)) [
+    | yes e ↦ let v≡w : v ≡ w = cc in cc
+    | no e ↦ absurd (moved h (k .2 .elsewhere c i (h .0) e))
+  ]

@@ -1,0 +1,39 @@
+-- Allocating (the paper's placing): a random slot of the smallest class that holds the size.
+use Prim.Native.Nat.{ℕ, zero, suc, _/_, _%_}
+use mathlib.Core.List.{List}
+use mathlib.Core.Bool.{true, false, cond, _||_}
+use lib.Dec.{leb, ltb, eqb}
+use Rattle.mwc.specs.declared.Generator.{Generator}
+use Rattle.mwc.specs.Draw.{next, drawn}
+use Rattle.geometry.specs.declared.Layout.{Layout}
+use Rattle.geometry.specs.Layout.{classes, classOf, slots}
+use Rattle.bitmap.specs.Bitmap.{isSet, countSet, nextClear}
+use Rattle.answer.specs.declared.Refusal.the-variants.{UnsupportedSize, ClassTooSmall, ClassAtCapacity}
+use Rattle.rules.specs.declared.Found.{Found}
+use Rattle.rules.specs.Metadata.{generatorOf, bitmapOf}
+use Rattle.rules.specs.Outcome.{Outcome, refused, allocated}
+
+-- up to k draws, of which the first that meets a clear slot takes it; then the next clear slot above the last one tested
+unfoldable pub probe : List ℕ → ℕ → Generator → ℕ → ℕ → Found
+probe b n g last zero = record { slot = nextClear b n last; generator = g }
+probe b n g last (suc k) =
+    let i : ℕ = drawn (next g) % n in
+    elim (isSet b n i) [ true ↦ probe b n (next g) i k | false ↦ record { slot = i; generator = next g } ]
+
+-- no more draws than this
+abbrev pub draws : ℕ
+draws = 32
+
+-- in a class with room, the slot that the draws choose
+abbrev pub taken : Layout → List ℕ → ℕ → Outcome
+taken G m c =
+    let found : Found = probe (bitmapOf G c m) (slots G c) (generatorOf m) 0 draws in
+    allocated c (found .slot) (found .generator)
+
+unfoldable pub allocate : Layout → List ℕ → ℕ → Outcome
+allocate G m size =
+    let c : ℕ = classOf G size in
+    let n : ℕ = slots G c in
+    cond (eqb size 0 || eqb c classes) (refused UnsupportedSize)
+    (cond (ltb n 2) (refused ClassTooSmall)
+    (cond (leb (n / 2) (countSet (bitmapOf G c m) n)) (refused ClassAtCapacity) (taken G m c)))

@@ -1,0 +1,9 @@
+pub mod Metadata
+pub mod Open
+pub mod Outcome
+pub mod Allocate
+pub mod Object
+pub mod Serve
+pub mod Run
+pub mod Pair
+pub mod Live

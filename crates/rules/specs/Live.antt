@@ -1,0 +1,53 @@
+-- Live objects, from requests and answers alone.
+use Prim.Native.Nat.{ℕ, _+_, _*_, _≤_}
+use mathlib.Core.Bool.{true, false, cond, _&&_}
+use mathlib.Core.List.{List, [], _∷_}
+use lib.Dec.{leb, ltb, eqb}
+use Rattle.request.specs.declared.Request.the-variants.{Allocate, Free, Remaining, CopyBytes, CopyString, CopyPadded}
+use Rattle.request.specs.declared.Parsed.{Parsed}
+use Rattle.request.specs.declared.Parsed.the-variants.{Whole, Malformed}
+use Rattle.geometry.specs.declared.Layout.{Layout}
+use Rattle.geometry.specs.Layout.{classOf, slotSize, slots}
+use Rattle.rules.specs.Run.{Event}
+
+-- an object takes as many bytes from its start on as a slot of its class has
+pub record Object : Type 0 where
+  pub start : ℕ
+  pub class : ℕ
+
+-- the objects that do not start at an offset
+unfoldable pub without : ℕ → List Object → List Object
+without offset [] = []
+without offset (o ∷ os) = elim (eqb (o .start) offset) [ true ↦ without offset os | false ↦ o ∷ without offset os ]
+
+-- a served allocation makes an object, and a served free ends what starts at its offset
+abbrev pub servedAfter : Layout → List Object → Parsed → ℕ → List Object
+servedAfter G os (Whole (Allocate size)) value = record { start = value; class = classOf G size } ∷ os
+servedAfter G os (Whole (Free offset)) value = without offset os
+servedAfter G os (Whole (Remaining offset)) value = os
+servedAfter G os (Whole (CopyBytes offset)) value = os
+servedAfter G os (Whole (CopyString offset)) value = os
+servedAfter G os (Whole (CopyPadded offset count)) value = os
+servedAfter G os Malformed value = os
+
+unfoldable pub objectsAfter : Layout → List Object → Event → List Object
+objectsAfter G os a = cond (eqb (a .answer .number) 0) (servedAfter G os (a .asked) (a .answer .value)) os
+
+-- what is live after a history, on top of the objects given
+unfoldable pub live : Layout → List Object → List Event → List Object
+live G os [] = os
+live G os (a ∷ rest) = live G (objectsAfter G os a) rest
+
+-- how many objects have byte x, and how many are of class c
+unfoldable pub holding : Layout → ℕ → List Object → ℕ
+holding G x [] = 0
+holding G x (o ∷ os) = cond (leb (o .start) x && ltb x (o .start + slotSize G (o .class))) 1 0 + holding G x os
+
+unfoldable pub ofClass : ℕ → List Object → ℕ
+ofClass c [] = 0
+ofClass c (o ∷ os) = cond (eqb (o .class) c) 1 0 + ofClass c os
+
+-- no byte lies in two objects, and no class is over half full
+pub record Sound (G : Layout) (os : List Object) : Type 0 where
+  pub apart : (x : ℕ) → holding G x os ≤ 1
+  pub half : (c : ℕ) → 2 * ofClass c os ≤ slots G c

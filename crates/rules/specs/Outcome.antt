@@ -1,0 +1,39 @@
+-- What a request comes to, and what that means for its answer, the metadata and the heap. The answer and the metadata depend on the heap's
+-- length alone, and not on its bytes.
+use Prim.Native.Nat.{ℕ}
+use mathlib.Core.List.{List}
+use Rattle.mwc.specs.declared.Generator.{Generator}
+use Rattle.geometry.specs.declared.Layout.{Layout}
+use Rattle.geometry.specs.Layout.{slotSize, slots, slotStart, bitmapAt}
+use Rattle.bitmap.specs.Bitmap.{setSlot, clearSlot}
+use Rattle.answer.specs.declared.Refusal.{Refusal}
+use Rattle.answer.specs.Reply.{Reply, served, refusedBy}
+use Rattle.rules.specs.Metadata.{fieldsOf, bitmapOf, overwrite}
+
+pub data Outcome : Type 0 where
+  refused : Refusal → Outcome
+  -- a slot of a class, and the generator after its draws
+  allocated : ℕ → ℕ → Generator → Outcome
+  -- a slot of a class
+  freed : ℕ → ℕ → Outcome
+  -- a value, and bytes written from an offset on
+  told : ℕ → ℕ → List ℕ → Outcome
+
+abbrev pub reply : Layout → Outcome → Reply
+reply G (refused r) = refusedBy r
+reply G (allocated c i g) = served (slotStart G c i)
+reply G (freed c i) = served (slotSize G c)
+reply G (told value offset bytes) = served value
+
+abbrev pub metadataAfter : Layout → List ℕ → Outcome → List ℕ
+metadataAfter G m (refused r) = m
+metadataAfter G m (allocated c i g) =
+    overwrite (overwrite m (bitmapAt G c) (setSlot (bitmapOf G c m) (slots G c) i)) 0 (fieldsOf g)
+metadataAfter G m (freed c i) = overwrite m (bitmapAt G c) (clearSlot (bitmapOf G c m) (slots G c) i)
+metadataAfter G m (told value offset bytes) = m
+
+abbrev pub heapAfter : List ℕ → Outcome → List ℕ
+heapAfter h (refused r) = h
+heapAfter h (allocated c i g) = h
+heapAfter h (freed c i) = h
+heapAfter h (told value offset bytes) = overwrite h offset bytes
