@@ -1,5 +1,11 @@
-# `make run` builds benchrun, proved, and replays the eight requests of crates/benchrun/stdin. `make test` is the gate.
-.PHONY: run test
+# make run      builds benchrun, proved, and replays the eight requests of crates/benchrun/stdin
+# make test     the gate: proofs, must-fail edits, programs, and the tests below tests/
+# make lib      target/staticlib/libcapi.a, for C programs with include/poheldu.h
+# make fuzz     any bytes through the C interface, for FUZZ_SECONDS (60); wants clang
+# make bench    ratios against the second implementation, memcpy, memcmp and malloc
+.PHONY: run test lib fuzz bench
+
+FUZZ_SECONDS ?= 60
 
 run:
 	@mkdir -p target && rt check benchrun > target/run.log 2>&1 || { tail -n 20 target/run.log; exit 1; }
@@ -7,3 +13,16 @@ run:
 
 test:
 	.ci/run
+
+lib:
+	rt staticlib capi
+
+fuzz: lib
+	@command -v clang > /dev/null || { echo "make fuzz: clang is not installed (Debian packages clang and libclang-rt-14-dev)"; exit 1; }
+	clang -g -O1 -fsanitize=fuzzer -Iinclude tests/fuzz/fuzz.c target/staticlib/libcapi.a -o target/fuzz
+	target/fuzz -max_total_time=$(FUZZ_SECONDS) -max_len=2000 -print_final_stats=1
+
+bench: lib
+	rt check benchrun > target/bench.log 2>&1 || { tail -n 20 target/bench.log; exit 1; }
+	cd tests && cargo build --release --offline --quiet
+	target/tests/release/bench target/bin/benchrun

@@ -1,17 +1,16 @@
 -- A content at the front of a target, as far as it fits, and the contents that copies write.
-use Prim.Native.Nat.{ℕ, suc, min, _+_, _-_, _<_, _≤_}
-use mathlib.Core.Path.{_≡_, sym, ap, _∙_}
-use mathlib.Core.Bool.{cond}
-use mathlib.Core.List.{List, _++_, append-assoc}
-use native.Mathlib.Nat.{zero-add, sub-zero}
+use Prim.Native.Nat.{ℕ, zero, suc, min, _+_, _-_, _<_, _≤_}
+use mathlib.Core.Path.{_≡_, refl, sym, ap, _∙_}
+use mathlib.Core.Bool.{Bool, true, false}
+use mathlib.Core.List.{List, [], _∷_, _++_, append-assoc, append-nil}
+use native.Mathlib.Nat.{zero-add, sub-zero, sub-self}
 use native.Mathlib.Numerals.{add-one}
-use native.Mathlib.Decide.{decLe, decLt}
+use native.Mathlib.Decide.{decLe}
 use native.Mathlib.Omega.{arith}
-use borrow.Author.Tests.{lt-ltb, le-ltb}
-use lib.Dec.{ltb}
-use lib.ListN.{length, take, drop, getD, set, replicate, length-append, length-take, length-replicate, take-append-drop, drop-of-length-le, getD-replicate, List·getD-append}
-use lib.Seq.{take-all, take-length, drop-length, length-take-le, take-take, take-suc, drop-cons, set-at, append-snoc, drop-append-le, getD-take, getD-append-add}
-use Rattle.bytes.specs.Bytes.{indexOf, slice}
+use lib.Dec.{eqb}
+use lib.ListN.{length, take, drop, replicate, length-append, length-take, length-drop, length-replicate, take-append-drop, drop-of-length-le}
+use lib.Seq.{take-all, take-length, drop-length, length-take-le, take-take, take-at, drop-at, drop-drop, take-append-le, take-append-add, drop-append-le}
+use Rattle.bytes.specs.Bytes.{indexOf, indexAfter, slice}
 use Rattle.rules.specs.declared.Kind.the-variants.{String, Padded}
 use Rattle.rules.specs.Object.{contentOf, clip}
 
@@ -41,12 +40,6 @@ module _ (s t : List ℕ) where
       let size : length front ≡ length t = rw sub-zero (length-take-le (length t) s (omega arith)) in
       clipped {i = length t} (omega arith) (p ∙ size) (q ∙ rw (size, sub-zero, take-take (length t) (length t) s (omega arith)))
 
-  -- a store of one byte more
-  fill-more : (i : ℕ) → i < length s → i < length t → set (take i s ++ drop i t) i (getD s i 0) ≡ take (i + 1) s ++ drop (i + 1) t
-  fill-more i h l =
-      rw (add-one i, drop-cons t i 0 l, set-at (take i s) (getD t i 0) (drop (suc i) t) (getD s i 0) i (length-take-le i s (omega arith)), take-suc s i 0 h)
-      (sym (append-snoc (take i s) (getD s i 0) (drop (suc i) t)))
-
 -- the first k elements of a list, lent and filled: the list has the first bytes of the content in place of its own
 pub filled-back : (s x : List ℕ) {k n : ℕ} → k ≤ length x → n ≡ min (length s) k
     → clip s (take k x) ++ drop k x ≡ take n s ++ drop (length (take n s)) x
@@ -55,41 +48,96 @@ filled-back s x {k} {n} h e =
     let fits : n ≡ min (length s) (length (take k x)) = rw room e in
     rw (length-take-le n s (omega arith), ← filled s (take k x) fits, append-assoc, ← drop-append-le n (take k x) (drop k x) (omega arith), take-append-drop)
 
+-- a content cut where no more fits is as good as the whole
+enough : (s t : List ℕ) (n : ℕ) → min (length s) (length t) ≤ n
+    → (min (length s) (length t) ≡ min (length (take n s)) (length t)) × (clip s t ≡ clip (take n s) t)
+enough s t n h =
+    let i : ℕ = min (length s) (length t) in
+    let same : i ≡ min (length (take n s)) (length t) = rw length-take (omega arith) in
+    (same, sym (filled s t refl) ∙ rw (← take-take i n s h) (filled (take n s) t same))
+
 -- ---- contents
 
--- what a search of the whole source finds
-found : (s : List ℕ) {end : ℕ} → end ≡ 0 + indexOf 0 (slice 0 (length s) s) → end ≡ indexOf 0 s
-unfolding slice
-found s e = e ∙ rw (zero-add, take-length)
+-- a search of the first n elements
+index-take : (b : ℕ) (xs : List ℕ) (n : ℕ) → indexOf b (take n xs) ≡ min n (indexOf b xs)
+unfolding indexOf indexAfter
+index-take b [] zero = refl
+index-take b [] (suc n) = omega arith
+index-take b (x ∷ xs) zero = omega arith
+index-take b (x ∷ xs) (suc n) = go (eqb x b) refl (index-take b xs n)
+  where
+    go : (t : Bool) → eqb x b ≡ t → indexOf b (take n xs) ≡ min n (indexOf b xs) → indexOf b (take (suc n) (x ∷ xs)) ≡ min (suc n) (indexOf b (x ∷ xs))
+    go true e rest = rw e (omega arith)
+    go false e rest = rw (e, rest) (omega arith)
 
-module _ (s : List ℕ) {end : ℕ} (at : end ≡ 0 + indexOf 0 (slice 0 (length s) s)) where
-  -- the source through the byte that was found, or all of it where there is none
-  pub string-part : take (end + 1 - 0) s ≡ contentOf String s
-  string-part = rw (← found s at, sub-zero, add-one)
+index-le : (b : ℕ) (xs : List ℕ) → indexOf b xs ≤ length xs
+index-le b xs = omega (arith, index-take b xs (length xs), ap (indexOf b) (take-length xs))
 
-  pub string-whole : length s ≤ end → s ≡ contentOf String s
-  string-whole h = sym (rw (← found s at) (take-all (suc end) s (omega arith)))
+module _ (s : List ℕ) (n : ℕ) {end : ℕ} (at : end ≡ 0 + indexOf 0 (slice 0 n s)) where
+  found : end ≡ min n (indexOf 0 s)
+  unfolding slice
+  found = at ∙ rw zero-add (index-take 0 s n)
 
-module _ (s : List ℕ) (count : ℕ) where
+  -- the source through the zero byte that was found
+  pub string-part : end < n → take (end + 1 - 0) s ≡ contentOf String s
+  string-part h = let all : end ≡ indexOf 0 s = omega (arith, found) in rw (← all, sub-zero, add-one)
+
+  -- none among those that fit: as far as they do, the content is the source
+  pub string-whole : (t : List ℕ) {r : ℕ} {after : List ℕ} → n ≡ min (length s) (length t) → n ≤ end
+      → (r ≡ min (length s) (length t)) × (after ≡ clip s t)
+      → (r ≡ min (length (contentOf String s)) (length t)) × (after ≡ clip (contentOf String s) t)
+  string-whole t e h (p, q) =
+      let (fits, same) = enough s t (suc (indexOf 0 s)) (omega (arith, found)) in
+      (p ∙ fits, q ∙ same)
+
+take-zeros : (k n : ℕ) → k ≤ n → take k (replicate n 0) ≡ replicate {A = ℕ} k 0
+take-zeros zero n h = refl
+take-zeros (suc k) zero h = absurd (omega arith)
+take-zeros (suc k) (suc n) h = ap (λ (l : List ℕ). 0 ∷ l) (take-zeros k n (omega arith))
+
+module _ (s t : List ℕ) (count : ℕ) where
   -- a padded content has as many bytes as it should
-  pub padded-length : length (contentOf (Padded count) s) ≡ count
+  padded-length : length (contentOf (Padded count) s) ≡ count
   padded-length = rw (length-take, length-append, length-replicate) (omega arith)
 
-  module _ {end : ℕ} (at : end ≡ 0 + indexOf 0 (slice 0 (length s) s)) (within : end ≤ length s) where
-    -- its bytes: those of the source before the end, and then zeros
-    padded-at : (i : ℕ) → i < count → cond (ltb i end) (getD s i 0) 0 ≡ getD (contentOf (Padded count) s) i 0
-    padded-at i h = rw (← found s at, getD-take count (take end s ++ replicate count 0) i 0 h) (go (decLt i end))
+  module _ {room text : ℕ} (fits : room ≤ count) (cut : text ≡ min room (indexOf 0 s)) where
+    -- its front: the text that fits, and then zeros
+    padded-front : take room (contentOf (Padded count) s) ≡ take text s ++ replicate (room - text) 0
+    padded-front = rw (take-take room count _ fits) (go (decLe (indexOf 0 s) room))
       where
-        go : Dec (i < end) → cond (ltb i end) (getD s i 0) 0 ≡ getD (take end s ++ replicate count 0) i 0
-        go (yes l) =
-            rw (lt-ltb i end l, List·getD-append (take end s) (replicate count 0) 0 i (rw (length-take-le end s within) l), getD-take end s i 0 l)
-        go (no l) =
-            let past : i ≡ length (take end s) + (i - end) = rw (length-take-le end s within) (omega arith) in
-            rw (le-ltb i end (omega arith))
-            (sym (ap (λ (n : ℕ). getD (take end s ++ replicate count 0) n 0) past ∙ getD-append-add (take end s) (replicate count 0) (i - end) 0 ∙ getD-replicate count (i - end) 0 0 (omega arith)))
+        k : ℕ
+        k = indexOf 0 s
 
-    -- a store of the next one
-    pub padded-more : (t : List ℕ) (i : ℕ) → i < count → i < length t
-        → set (take i (contentOf (Padded count) s) ++ drop i t) i (cond (ltb i end) (getD s i 0) 0)
-        ≡ take (i + 1) (contentOf (Padded count) s) ++ drop (i + 1) t
-    padded-more t i h l = rw (padded-at i h) (fill-more (contentOf (Padded count) s) t i (rw padded-length h) l)
+        size : length (take k s) ≡ k
+        size = length-take-le k s (index-le 0 s)
+
+        go : Dec (k ≤ room) → take room (take k s ++ replicate count 0) ≡ take text s ++ replicate (room - text) 0
+        go (yes h) =
+            let whole : text ≡ k = omega arith in
+            let split : room ≡ length (take k s) + (room - k) = rw size (omega arith) in
+            rw whole (ap (λ (n : ℕ). take n (take k s ++ replicate count 0)) split ∙ take-append-add (take k s) (replicate count 0) (room - k) ∙ rw (take-zeros (room - k) count (omega arith)))
+        go (no h) =
+            let none : text ≡ room = omega arith in
+            rw (none, take-append-le room (take k s) (replicate count 0) (rw size (omega arith)), take-take room k s (omega arith), sub-self, append-nil)
+
+  -- the text copied and the rest cleared
+  pub padded-put : {room seen text : ℕ} {mid zeros : List ℕ} → room ≡ min count (length t) → seen ≡ min (length s) room
+      → text ≡ 0 + indexOf 0 (slice 0 seen s)
+      → mid ≡ take (length (take (text - 0) s)) (take (text - 0) s) ++ drop (length (take (text - 0) s)) t
+      → zeros ≡ replicate (length (take (room - text) (drop text mid))) 0
+      → (room ≡ min (length (contentOf (Padded count) s)) (length t))
+      × (take text mid ++ (zeros ++ drop (room - text) (drop text mid)) ≡ clip (contentOf (Padded count) s) t)
+  padded-put {room} {seen} {text} {mid} {zeros} roomy view at copied cleared =
+      let cut : text ≡ min room (indexOf 0 s) = omega (arith, found s seen at, index-le 0 s) in
+      let size : length (take text s) ≡ text = length-take-le text s (omega (arith, index-le 0 s)) in
+      let middle : mid ≡ take text s ++ drop text t = copied ∙ rw (sub-zero, size, take-take text text s (omega arith)) in
+      let before : take text mid ≡ take text s = rw middle (take-at (take text s) (drop text t) text size) in
+      let after : drop text mid ≡ drop text t = rw middle (drop-at (take text s) (drop text t) text size) in
+      let left : length (take (room - text) (drop text t)) ≡ room - text = rw (length-take, length-drop) (omega arith) in
+      let fill : zeros ≡ replicate (room - text) 0 = cleared ∙ rw (after, left) in
+      let end : text + (room - text) ≡ room = omega arith in
+      let all : room ≡ min (length (contentOf (Padded count) s)) (length t) = rw padded-length roomy in (
+        all,
+        rw (before, after, fill, drop-drop (room - text) text t, end, ← append-assoc (take text s) (replicate (room - text) 0) (drop room t), ← padded-front (omega arith) cut)
+            (filled (contentOf (Padded count) s) t all),
+      )

@@ -1,4 +1,5 @@
 // Copies into an object: the writer is lent the bytes from the offset to the object's end, and no others.
+use crate::clear;
 use crate::object;
 use crate::wide;
 use answer::Answer;
@@ -7,9 +8,7 @@ use geometry::Layout;
 use rules::Kind;
 ghost use mathlib.Core.Path.{_≡_};
 ghost use Prim.Native.Nat.{min, _≤_, _<_};
-ghost use lib.ListN.{length, getD};
-ghost use lib.Dec.{ltb};
-ghost use mathlib.Core.Bool.{cond};
+ghost use lib.ListN.{length};
 ghost use Rattle.geometry.specs.Layout.{heapLength, metadataLength};
 ghost use Rattle.answer.specs.Reply.{replyOf};
 ghost use Rattle.rules.specs.declared.Kind.the-variants.{String, Padded};
@@ -28,25 +27,24 @@ fn write_bytes(target: &mut [u8], source: &[u8]) -> usize
     bytes::copy(&source[0..room], target)
 }
 
-// Writes the source through its first zero byte, as far as it fits.
+fn least(a: usize, b: usize) -> usize
+    ensures { λ r. ⌜ r ≡ min a b ⌝ }
+{
+    if a < b { a } else { b }
+}
+
+// Writes the source through its first zero byte, as far as it fits. Nothing past what fits is looked at.
 fn write_string(target: &mut [u8], source: &[u8]) -> usize
     ensures { λ r. ⌜ r ≡ min (length (contentOf String (now (source .entry)))) (length (now (target .entry))) ⌝ }
     ensures { λ _. ⌜ now (target .exit) ≡ clip (contentOf String (now (source .entry))) (now (target .entry)) ⌝ }
 {
-    let end = bytes::scan::find(source, 0, source.len(), 0);
-    if end < source.len() {
+    let seen = least(source.len(), target.len());
+    let end = bytes::scan::find(source, 0, seen, 0);
+    if end < seen {
         let past = end + 1;
         return write_bytes(target, &source[0..past]);
     }
     write_bytes(target, source)
-}
-
-// A byte of the source where it comes before `end`, and zero from there on.
-fn padded_byte(source: &[u8], end: usize, i: usize) -> u8
-    requires { ⌜ end ≤ length (now source) ⌝ }
-    ensures { λ r. ⌜ r ≡ cond (ltb i end) (getD (now (source .entry)) i 0) 0 ⌝ }
-{
-    if i < end { source[i] } else { 0 }
 }
 
 // Writes the source before its first zero byte and then zeros, `count` bytes in all, as far as they fit.
@@ -54,17 +52,12 @@ fn write_padded(target: &mut [u8], source: &[u8], count: u32) -> usize
     ensures { λ r. ⌜ r ≡ min (length (contentOf (Padded count) (now (source .entry)))) (length (now (target .entry))) ⌝ }
     ensures { λ _. ⌜ now (target .exit) ≡ clip (contentOf (Padded count) (now (source .entry))) (now (target .entry)) ⌝ }
 {
-    let end = bytes::scan::find(source, 0, source.len(), 0);
-    let all = wide(count);
-    let mut i: usize = 0;
-    while i < all {
-        if target.len() <= i {
-            return i;
-        }
-        target[i] = padded_byte(source, end, i);
-        i += 1;
-    }
-    i
+    let room = least(wide(count), target.len());
+    let seen = least(source.len(), room);
+    let text = bytes::scan::find(source, 0, seen, 0);
+    bytes::copy(&source[0..text], target);
+    clear(&mut target[text..room]);
+    room
 }
 
 // Writes what a copy of this kind writes, as far as it fits.

@@ -1,81 +1,67 @@
--- `heap::copy::write_padded` meets its contract. The loop's invariant: the first `i` bytes are the content's, the others the target's own.
-use Prim.Native.Nat.{_-_, _≤_}
-use mathlib.Core.Path.{_≡_, refl}
-use mathlib.Core.List.{_++_}
-use native.Mathlib.Omega.{arith}
 use borrow.Author.Needs.{needs}
-use lib.ListN.{length, take, drop, length-set}
-use Rattle.rules.specs.declared.Kind.the-variants.{Padded}
-use Rattle.rules.specs.Object.{contentOf}
-use Rattle.heap.proofs.Clip.{clipped, padded-length, padded-more}
+use Rattle.heap.proofs.Clip.{padded-put}
 use Rattle.heap.proofs.copy.write_padded.Statement.{statement}
 use Rattle.heap.proofs.copy.write_padded.Tie as tie
 
-abbrev Inv-loop : tie.InvT-loop
-Inv-loop target₀ source count end all i₀ target i =
-    (i ≤ count) × (i ≤ length target₀) × (length target ≡ length target₀) × (target ≡ take i (contentOf (Padded count) source) ++ drop i target₀)
-
-abbrev μ-loop : tie.MeasureT-loop
-μ-loop target₀ source count end all i₀ target i = count - i
-
-find-requires : tie.Need-find-requires Inv-loop μ-loop
-find-requires c κs = search needs
-
-wide-requires : tie.Need-wide-requires Inv-loop μ-loop
+wide-requires : tie.Need-wide-requires
 wide-requires c κs = search needs
 
-loop-holds : tie.Need-loop-holds Inv-loop μ-loop
-loop-holds c = (omega arith, omega arith, refl, refl)
+least-requires : tie.Need-least-requires
+least-requires c κs = search needs
 
-same-length : tie.Need-same-length Inv-loop μ-loop
-same-length c = c .before .before .loop .inv .2
+least-requires-2 : tie.Need-least-requires-2
+least-requires-2 c κs = search needs
 
-returns : tie.Need-returns Inv-loop μ-loop
-returns c = clipped _ _ (rw padded-length (omega arith)) refl (c .before .before .loop .inv .3)
+find-requires : tie.Need-find-requires
+find-requires c κs = search needs
 
-padded-byte-requires : tie.Need-padded-byte-requires Inv-loop μ-loop
-padded-byte-requires c κs = search needs
+sub-copy : tie.Need-sub-copy
+sub-copy c = search needs
 
-slice-write-target : tie.Need-slice-write-target Inv-loop μ-loop
-slice-write-target c = search needs
+part-copy-start : tie.Need-part-copy-start
+part-copy-start c = search needs
 
-add-i : tie.Need-add-i Inv-loop μ-loop
-add-i c = search needs
+part-copy-end : tie.Need-part-copy-end
+part-copy-end c = search needs
 
-loop-less : tie.Need-loop-less Inv-loop μ-loop
-loop-less c = search needs
+copy-requires : tie.Need-copy-requires
+copy-requires c κs = search needs
 
-loop-again : tie.Need-loop-again Inv-loop μ-loop
-loop-again c = (
-  omega arith,
-  omega arith,
-  simp length-set (c .before .before .before .loop .inv .2),
-  rw (c .before .before .before .loop .inv .3, c .padded-byte .ensures)
-      (let a = c .before .before .before .before .before .before .before .before .args in
-      padded-more (a .source .now) (a .count) (c .before .before .before .before .before .find .ensures .0) (c .before .before .before .before .before .find .ensures .1) (a .target .now) (c .before .before .before .loop .i) (omega arith) (omega arith)),
-)
+sub-clear : tie.Need-sub-clear
+sub-clear c = search needs
 
-same-length-2 : tie.Need-same-length-2 Inv-loop μ-loop
-same-length-2 c = c .before .loop .inv .2
+part-clear-start : tie.Need-part-clear-start
+part-clear-start c = search needs
 
-returns-2 : tie.Need-returns-2 Inv-loop μ-loop
-returns-2 c = clipped _ _ (rw padded-length (omega arith)) refl (c .before .loop .inv .3)
+part-clear-end : tie.Need-part-clear-end
+part-clear-end c = search needs
+
+clear-requires : tie.Need-clear-requires
+clear-requires c κs = search needs
+
+same-length : tie.Need-same-length
+same-length c = search needs
+
+returns : tie.Need-returns
+returns c =
+    let l = c .before .before .before .before .before .before .before .before .before .before .before .least .ensures in
+    padded-put _ _ _ (rw (c .before .before .before .before .before .before .before .before .before .before .before .before .wide .ensures .0) at l) (c .before .before .before .before .before .before .before .before .before .before .least2 .ensures) (c .before .before .before .before .before .before .before .before .before .find .ensures .0) (c .before .before .before .before .before .before .copy .ensures .1) (c .before .before .clear .ensures)
 
 pub write-padded-spec : {M : Type 1} → statement M
 write-padded-spec =
     tie.close
     (tie.spec
-    Inv-loop
-    μ-loop
-    find-requires
     wide-requires
-    loop-holds
+    least-requires
+    least-requires-2
+    find-requires
+    sub-copy
+    part-copy-start
+    part-copy-end
+    copy-requires
+    sub-clear
+    part-clear-start
+    part-clear-end
+    clear-requires
     same-length
-    returns
-    padded-byte-requires
-    slice-write-target
-    add-i
-    loop-less
-    loop-again
-    same-length-2
-    returns-2)
+    returns)

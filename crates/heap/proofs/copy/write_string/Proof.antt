@@ -1,8 +1,10 @@
--- `heap::copy::write_string` meets its contract: what it hands on is the source through its first zero byte.
 use borrow.Author.Needs.{needs}
 use Rattle.heap.proofs.Clip.{string-part, string-whole}
 use Rattle.heap.proofs.copy.write_string.Statement.{statement}
 use Rattle.heap.proofs.copy.write_string.Tie as tie
+
+least-requires : tie.Need-least-requires
+least-requires c κs = search needs
 
 find-requires : tie.Need-find-requires
 find-requires c κs = search needs
@@ -26,7 +28,7 @@ same-length : tie.Need-same-length
 same-length c = search needs
 
 returns : tie.Need-returns
-returns c = rw (← string-part _ (c .before .before .before .before .before .before .find .ensures .0)) (c .before .before .write-bytes .ensures)
+returns c = rw (← string-part _ _ (c .before .before .before .before .before .before .find .ensures .0) (c .before .before .before .before .before .if1 .taken)) (c .before .before .write-bytes .ensures)
 
 write-bytes-requires-2 : tie.Need-write-bytes-requires-2
 write-bytes-requires-2 c κs = search needs
@@ -35,12 +37,15 @@ same-length-2 : tie.Need-same-length-2
 same-length-2 c = search needs
 
 returns-2 : tie.Need-returns-2
-returns-2 c = rw (← string-whole _ (c .before .before .before .before .before .find .ensures .0) (c .before .before .before .before .if1 .left)) (c .before .before .write-bytes2 .ensures)
+returns-2 c =
+    let a = c .before .before .before .before .before .before .before .before .before .args in
+    string-whole (a .source .now) _ (c .before .before .before .before .before .find .ensures .0) (a .target .now) (c .before .before .before .before .before .before .least .ensures) (c .before .before .before .before .if1 .left) (c .before .before .write-bytes2 .ensures)
 
 pub write-string-spec : {M : Type 1} → statement M
 write-string-spec =
     tie.close
     (tie.spec
+    least-requires
     find-requires
     add-past
     sub-write-bytes

@@ -1,0 +1,19 @@
+use borrow.Author.Needs.{needs}
+use mathlib.Core.Path.{_∙_}
+use Rattle.capi.proofs.poheldu_open.Statement.{statement}
+use Rattle.capi.proofs.poheldu_open.Tie as tie
+
+open-requires : tie.Need-open-requires
+open-requires c κs = search needs
+
+in-numbers-requires : tie.Need-in-numbers-requires
+in-numbers-requires c κs = search needs
+
+same-length : tie.Need-same-length
+same-length c = search needs
+
+returns : tie.Need-returns
+returns c = (c .in-numbers .ensures ∙ c .before .before .before .open .ensures .0, c .before .before .before .open .ensures .1)
+
+pub poheldu-open-spec : {M : Type 1} → statement M
+poheldu-open-spec = tie.close (tie.spec open-requires in-numbers-requires same-length returns)

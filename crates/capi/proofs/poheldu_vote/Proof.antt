@@ -1,0 +1,51 @@
+use borrow.Author.Needs.{needs}
+use mathlib.Core.Path.{refl, sym, _∙_}
+use Rattle.answer.proofs.Numbers.{refusal-number}
+use Rattle.capi.proofs.poheldu_vote.Statement.{statement}
+use Rattle.capi.proofs.poheldu_vote.Tie as tie
+
+vote-requires : tie.Need-vote-requires
+vote-requires c κs = search needs
+
+enum-known-mask : tie.Need-enum-known-mask
+enum-known-mask c = search needs
+
+enum-known-refusal : tie.Need-enum-known-refusal
+enum-known-refusal c = search needs
+
+number-requires : tie.Need-number-requires
+number-requires c κs = search needs
+
+same-length : tie.Need-same-length
+same-length c = search needs
+
+returns : tie.Need-returns
+returns c =
+    let v = c .before .before .before .before .before .vote .ensures in
+    let agreed = c .before .mask .given .1 in
+    (rw agreed at (v .0), ((λ z. rw agreed at (v .1 .0), λ n. absurd (n refl)), v .1 .1))
+
+same-length-2 : tie.Need-same-length-2
+same-length-2 c = search needs
+
+returns-2 : tie.Need-returns-2
+returns-2 c =
+    let v = c .before .before .before .before .before .before .vote .ensures in
+    let refused = c .before .before .refusal .given .1 in
+    let number = c .number .ensures in (
+      rw number (rw refused at (v .0)),
+      ((λ z. absurd (refusal-number (c .before .before .refusal .given .0 .0) (sym number ∙ z)), λ n. refl), v .1 .1),
+    )
+
+pub poheldu-vote-spec : {M : Type 1} → statement M
+poheldu-vote-spec =
+    tie.close
+    (tie.spec
+    vote-requires
+    enum-known-mask
+    enum-known-refusal
+    number-requires
+    same-length
+    returns
+    same-length-2
+    returns-2)

@@ -1,0 +1,102 @@
+// The C interface (include/poheldu.h): a buffer passes as a pointer and a length. Each function only turns answers into numbers.
+ghost use mathlib.Core.Path.{_≡_};
+ghost use lib.ListN.{length};
+ghost use Rattle.geometry.specs.Layout.{layoutOf};
+ghost use Rattle.answer.specs.Reply.{replyOf};
+ghost use Rattle.rules.specs.Open.{setup, openReply, opened};
+ghost use Rattle.rules.specs.Outcome.{reply, metadataAfter, heapAfter};
+ghost use Rattle.rules.specs.Serve.{serve};
+ghost use Rattle.vote.specs.Decide.{decide, tally, outputAfter};
+ghost use Rattle.capi.specs.Numbers.{replyIn, tallyIn, NamesWinnerIn, metadataBytes};
+use answer::Answer;
+use geometry::Layout;
+use vote::Verdict;
+
+#[repr(C)]
+pub struct PohelduAnswer {
+    pub number: u32,
+    pub value: u32,
+}
+
+#[repr(C)]
+pub struct PohelduVerdict {
+    pub number: u32,
+    pub mask: u32,
+    pub value: u32,
+    pub replica: u32,
+}
+
+fn in_numbers(answer: Answer) -> PohelduAnswer
+    ensures { λ r. ⌜ replyIn r ≡ replyOf answer ⌝ }
+{
+    PohelduAnswer {
+        number: answer.number(),
+        value: answer.value(),
+    }
+}
+
+#[no_mangle]
+pub extern "C" fn poheldu_open(heap: &[u8], metadata: &mut [u8], z: u32, w: u32) -> PohelduAnswer
+    ensures { λ r. ⌜ replyIn r ≡ openReply (length (now (heap .entry))) (length (now (metadata .entry))) (setup z w) ⌝ }
+    ensures { λ _. ⌜ now (metadata .exit) ≡ opened (length (now (heap .entry))) (now (metadata .entry)) (setup z w) ⌝ }
+{
+    in_numbers(heap::open(heap, metadata, z, w))
+}
+
+#[no_mangle]
+pub extern "C" fn poheldu_serve(
+    heap: &mut [u8],
+    metadata: &mut [u8],
+    request: &[u8],
+    source: &[u8],
+) -> PohelduAnswer
+    ensures { λ r. ⌜ replyIn r ≡ reply (layoutOf (length (now (heap .entry)))) (serve (length (now (heap .entry))) (now (metadata .entry)) (now (request .entry)) (now (source .entry))) ⌝ }
+    ensures { λ _. ⌜ now (metadata .exit) ≡ metadataAfter (layoutOf (length (now (heap .entry)))) (now (metadata .entry)) (serve (length (now (heap .entry))) (now (metadata .entry)) (now (request .entry)) (now (source .entry))) ⌝ }
+    ensures { λ _. ⌜ now (heap .exit) ≡ heapAfter (now (heap .entry)) (serve (length (now (heap .entry))) (now (metadata .entry)) (now (request .entry)) (now (source .entry))) ⌝ }
+{
+    in_numbers(heap::serve(heap, metadata, request, source))
+}
+
+#[no_mangle]
+pub extern "C" fn poheldu_vote(
+    blocks: &[u8],
+    replicas: usize,
+    block_len: usize,
+    output: &mut [u8],
+) -> PohelduVerdict
+    ensures { λ r. ⌜ tallyIn r ≡ tally (decide (now (blocks .entry)) replicas «block_len» (length (now (output .entry)))) ⌝ }
+    // Which of the winners is named is open: the rules let it be any one.
+    ensures { λ r. ⌜ NamesWinnerIn r ⌝ }
+    ensures { λ _. ⌜ now (output .exit) ≡ outputAfter (decide (now (blocks .entry)) replicas «block_len» (length (now (output .entry)))) (now (output .entry)) ⌝ }
+{
+    match vote::vote(blocks, replicas, block_len, output) {
+        Verdict::Agreed {
+            mask,
+            count,
+            replica,
+        } => PohelduVerdict {
+            number: 0,
+            mask,
+            value: count,
+            replica,
+        },
+        Verdict::Refused(refusal) => PohelduVerdict {
+            number: refusal.number(),
+            mask: 0,
+            value: 0,
+            replica: 0,
+        },
+    }
+}
+
+// 0 where no heap has this length.
+#[no_mangle]
+pub extern "C" fn poheldu_metadata_length(heap_len: usize) -> usize
+    ensures { λ r. ⌜ r ≡ metadataBytes «heap_len» ⌝ }
+{
+    let layout = Layout::of(heap_len);
+    if layout.region == 0 {
+        return 0;
+    }
+    layout.metadata_length()
+}

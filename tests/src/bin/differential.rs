@@ -1,0 +1,504 @@
+//! Holds the proved library against the second implementation, over random,
+//! edge and damaged inputs: every answer, and every byte after every call.
+//!
+//! Arguments: --calls N (default 1,000,000), --seed N (default: from the clock).
+
+use poheldu_tests::compare::{Tester, Twin};
+use poheldu_tests::inputs::{self, Shape, CLASSES, STUCK_W, STUCK_Z};
+use poheldu_tests::random::Random;
+use poheldu_tests::reference::Answer;
+use std::time::{SystemTime, UNIX_EPOCH};
+
+const DEFAULT_CALLS: u64 = 1_000_000;
+const ALLOCATE: u8 = 0;
+const FREE: u8 = 1;
+const REMAINING: u8 = 2;
+const COPY_BYTES: u8 = 3;
+const COPY_STRING: u8 = 4;
+const COPY_PADDED: u8 = 5;
+
+fn main() {
+    let (calls, seed) = arguments();
+    println!("differential: seed {seed}");
+    let mut tester = Tester::new(seed);
+    let mut rng = Random::new(seed);
+    document_cases(&mut tester);
+    null_buffers(&mut tester);
+    too_long(&mut tester);
+    for shape in Shape::all() {
+        edges(&mut tester, shape);
+        traps(&mut tester, &mut rng, shape);
+    }
+    most_slots(&mut tester, &mut rng);
+    vote_grid(&mut tester, &mut rng);
+    huge_votes(&mut tester);
+    while tester.calls < calls {
+        random_calls(&mut tester, &mut rng, calls);
+    }
+    report(&tester);
+}
+
+fn arguments() -> (u64, u64) {
+    let (mut calls, mut seed) = (DEFAULT_CALLS, clock());
+    let mut words = std::env::args().skip(1);
+    while let Some(word) = words.next() {
+        let number = words.next().and_then(|number| number.parse().ok());
+        match (word.as_str(), number) {
+            ("--calls", Some(number)) => calls = number,
+            ("--seed", Some(number)) => seed = number,
+            _ => stop("usage: differential [--calls N] [--seed N]"),
+        }
+    }
+    (calls, seed)
+}
+
+fn clock() -> u64 {
+    let now = SystemTime::now().duration_since(UNIX_EPOCH);
+    now.map_or(1, |time| time.as_nanos() as u64)
+}
+
+fn stop(message: &str) -> ! {
+    println!("{message}");
+    std::process::exit(1)
+}
+
+fn report(tester: &Tester) {
+    let counts = tester.counts.iter().enumerate();
+    let counts: Vec<String> = counts.map(|(n, count)| format!("{n}:{count}")).collect();
+    println!("answers by refusal number: {}", counts.join(" "));
+    println!("served by operation: {:?}", tester.served);
+    println!(
+        "allocations by the walk: {}, of them round the end: {}",
+        tester.walks, tester.wraps
+    );
+    println!(
+        "NULL for heap, metadata, request, source, blocks, output: {:?}",
+        tester.nulls
+    );
+    require_coverage(tester);
+    println!(
+        "differential: {} calls, seed {}, no difference",
+        tester.calls, tester.seed
+    );
+}
+
+/// Every refusal number, operation, walk and NULL has to occur.
+fn require_coverage(tester: &Tester) {
+    let seen = [&tester.counts[..], &tester.served, &tester.nulls].concat();
+    if seen.contains(&0) || tester.walks == 0 || tester.wraps == 0 {
+        stop("differential: something above did not occur");
+    }
+}
+
+/// A heap with its metadata, twice.
+struct Session {
+    shape: Shape,
+    heap: Twin,
+    metadata: Twin,
+    guard: usize,
+}
+
+impl Session {
+    fn new(shape: Shape, heap: &[u8], guard: usize) -> Session {
+        Session {
+            shape,
+            heap: Twin::new(heap, guard),
+            metadata: Twin::new(&vec![0xEE; shape.metadata_len()], guard),
+            guard,
+        }
+    }
+
+    /// Heap bytes that count up, so that a copy to a wrong place shows.
+    fn counting(shape: Shape) -> Session {
+        let heap: Vec<u8> = (0..shape.heap_len()).map(|at| at as u8).collect();
+        Session::new(shape, &heap, 0)
+    }
+
+    fn open(&mut self, tester: &mut Tester, z: u32, w: u32) -> Answer {
+        tester.open(&mut self.heap, &mut self.metadata, z, w)
+    }
+
+    fn serve(&mut self, tester: &mut Tester, request: &[u8], source: &[u8]) -> Answer {
+        let mut request = Twin::new(request, self.guard);
+        let mut source = Twin::new(source, self.guard);
+        tester.serve(
+            &mut self.heap,
+            &mut self.metadata,
+            &mut request,
+            &mut source,
+        )
+    }
+
+    fn run(&mut self, tester: &mut Tester, operation: u8, argument: u32) -> Answer {
+        self.serve(tester, &inputs::request(operation, argument, 0), b"text")
+    }
+
+    fn show_all(&mut self) {
+        self.heap.show(self.shape.heap_len());
+        self.metadata.show(self.shape.metadata_len());
+    }
+}
+
+// --- Fixed cases ---
+
+/// Calls whose answers the document gives.
+fn document_cases(tester: &mut Tester) {
+    eight_lines(tester);
+    walk(tester);
+    for (blocks, number, mask) in [
+        (&b"ABA"[..], 0, 5),
+        (b"BAAB", 0, 9),
+        (b"xbaab", 0, 18),
+        (b"ABC", 12, 0),
+        (b"AA", 11, 0),
+    ] {
+        let mut output = Twin::new(b"???", 0);
+        let verdict = tester.vote(&mut Twin::new(blocks, 0), blocks.len(), 1, &mut output);
+        expect(
+            (verdict.number, verdict.mask) == (number, mask),
+            "a vote of the document",
+        );
+    }
+}
+
+fn expect(holds: bool, what: &str) {
+    if !holds {
+        stop(&format!(
+            "difference from the document's figures: {what} (both implementations agree)"
+        ));
+    }
+}
+
+fn eight_lines(tester: &mut Tester) {
+    let mut session = Session::counting(Shape { region: 4_096 });
+    session.open(tester, 1, 1);
+    for (operation, argument, number, value) in [
+        (ALLOCATE, 5, 0, 640),
+        (ALLOCATE, 100, 0, 16_384),
+        (FREE, 644, 9, 0),
+        (REMAINING, 643, 0, 5),
+        (FREE, 640, 0, 8),
+        (FREE, 640, 10, 0),
+        (ALLOCATE, 4_096, 6, 0),
+        (ALLOCATE, 0, 5, 0),
+        (FREE, 49_152, 8, 0),
+    ] {
+        let answer = session.run(tester, operation, argument);
+        expect(answer == Answer { number, value }, "the eight lines");
+    }
+}
+
+/// Every draw tests the same slot: the second allocation walks round the end.
+fn walk(tester: &mut Tester) {
+    let mut session = Session::counting(Shape { region: 4_096 });
+    session.open(tester, 1, STUCK_W);
+    for value in [20_352, 16_384, 16_512] {
+        let answer = session.run(tester, ALLOCATE, 128);
+        expect(answer == Answer { number: 0, value }, "the walk");
+    }
+}
+
+/// Each call is made twice: once with NULL, once with a dangling pointer.
+fn null_buffers(tester: &mut Tester) {
+    let mut session = Session::counting(Shape { region: 1_024 });
+    session.open(tester, 1, 1);
+    let object = session.run(tester, ALLOCATE, 64).value;
+    for _ in 0..2 {
+        session.serve(tester, &[], &[]);
+        for operation in [COPY_BYTES, COPY_STRING, COPY_PADDED] {
+            let count = 60 * u32::from(operation == COPY_PADDED);
+            let request = inputs::request(operation, object, count);
+            session.serve(tester, &request, &[]);
+            session.serve(tester, &request, &[]);
+        }
+        null_votes(tester);
+        null_session(tester, &mut session);
+    }
+}
+
+fn null_session(tester: &mut Tester, session: &mut Session) {
+    for (heap_len, metadata_len) in [(0, 0), (0, 42), (12 * 1_024, 0)] {
+        session.heap.show(heap_len);
+        session.metadata.show(metadata_len);
+        for _ in 0..2 {
+            session.open(tester, 1, 1);
+            session.open(tester, 0, 0);
+            session.run(tester, ALLOCATE, 8);
+        }
+    }
+    session.show_all();
+}
+
+fn null_votes(tester: &mut Tester) {
+    for (blocks, replicas, block_len, output) in [
+        (&b""[..], 3, 1, &b"?"[..]),
+        (b"", 3, 0, b"?"),
+        (b"", 0, 0, b""),
+        (b"", 0, 1, b"?"),
+        (b"AAA", 3, 1, b""),
+        (b"", 1 << 63, 2, b"?"),
+        (b"", 4, 1 << 62, b"?"),
+    ] {
+        let (mut blocks, mut output) = (Twin::new(blocks, 0), Twin::new(output, 0));
+        tester.vote(&mut blocks, replicas, block_len, &mut output);
+        tester.vote(&mut blocks, replicas, block_len, &mut output);
+    }
+}
+
+/// A heap twice as long as the longest allowed, with metadata to match.
+fn too_long(tester: &mut Tester) {
+    let mut session = Session::counting(Shape { region: 1 << 21 });
+    session.open(tester, 1, 1);
+    session.run(tester, ALLOCATE, 8);
+}
+
+/// Edges of every region length: openings, a class filled to its limit, and
+/// the first and last byte of each region with all bits set.
+fn edges(tester: &mut Tester, shape: Shape) {
+    let mut session = Session::counting(shape);
+    for (z, w) in [(0, 0), (0, 5), (5, 0), (STUCK_Z, STUCK_W)] {
+        session.open(tester, z, w);
+    }
+    for length in [
+        shape.heap_len(),
+        shape.heap_len() + 1,
+        12 * shape.region - 1,
+    ] {
+        tester.metadata_length(length);
+    }
+    fill_class(tester, &mut session);
+    session.metadata.replace(&vec![0xFF; shape.metadata_len()]);
+    for class in 0..CLASSES {
+        let start = (class * shape.region) as u32;
+        session.run(tester, REMAINING, start);
+        session.run(tester, COPY_BYTES, start + shape.region as u32 - 2);
+        long_copies(tester, &mut session, start);
+        session.run(tester, FREE, start);
+    }
+    let end = shape.heap_len() as u32;
+    for offset in [end - 1, end, u32::MAX] {
+        for operation in [FREE, REMAINING, COPY_BYTES, COPY_STRING, COPY_PADDED] {
+            session.run(tester, operation, offset);
+        }
+    }
+}
+
+/// Copies that are longer than any slot.
+fn long_copies(tester: &mut Tester, session: &mut Session, offset: u32) {
+    let mut source = vec![0x5A; 20_000];
+    session.serve(tester, &inputs::request(COPY_BYTES, offset, 0), &source);
+    source[17_000] = 0;
+    session.serve(
+        tester,
+        &inputs::request(COPY_STRING, offset + 1, 0),
+        &source,
+    );
+    let request = inputs::request(COPY_PADDED, offset + 2, u32::MAX);
+    session.serve(tester, &request, &[1, 2, 3, 4, 5]);
+}
+
+/// Walks that start anywhere in a class.
+fn traps(tester: &mut Tester, rng: &mut Random, shape: Shape) {
+    let mut session = Session::counting(shape);
+    for class in (0..CLASSES).filter(|&class| shape.slots(class) >= 128) {
+        session.metadata.replace(&inputs::trap(rng, shape, class));
+        for _ in 0..2 {
+            session.run(tester, ALLOCATE, inputs::slot_size(class) as u32);
+        }
+    }
+}
+
+/// Only class 0 of the longest heap has more than 65,536 slots, so that the
+/// high half of the draw chooses the slot too.
+fn most_slots(tester: &mut Tester, rng: &mut Random) {
+    let mut session = Session::counting(Shape { region: 1 << 20 });
+    for _ in 0..4 {
+        session.open(tester, rng.word() | 1, rng.word() | 1);
+        for size in 1..=8 {
+            session.run(tester, ALLOCATE, size);
+        }
+    }
+}
+
+/// Every number of replicas with every block length at an edge.
+fn vote_grid(tester: &mut Tester, rng: &mut Random) {
+    for replicas in 0..=17 {
+        for block_len in [0, 1, 2, 4_095, 4_096, 4_097] {
+            let blocks = inputs::replica_blocks(rng, replicas, block_len);
+            let mut output = Twin::new(&vec![0x3F; block_len + 3], 0);
+            tester.vote(&mut Twin::new(&blocks, 0), replicas, block_len, &mut output);
+        }
+    }
+}
+
+/// Numbers near 2^32, 2^63 and 2^64 with buffers of a few bytes.
+fn huge_votes(tester: &mut Tester) {
+    for huge in inputs::HUGE {
+        for other in [0, 1, 2, 3, 4, 1 << 32, 1 << 63, usize::MAX] {
+            for len in [0, 3, 4] {
+                let mut blocks = Twin::new(&b"AAAA"[..len], 0);
+                let mut output = Twin::new(b"????", 0);
+                tester.vote(&mut blocks, huge, other, &mut output);
+                tester.vote(&mut blocks, other, huge, &mut output);
+            }
+        }
+    }
+}
+
+/// Allocates in the largest class that allows it until that is refused.
+fn fill_class(tester: &mut Tester, session: &mut Session) {
+    let mut classes = (0..CLASSES).rev();
+    let Some(class) = classes.find(|&class| session.shape.slots(class) > 1) else {
+        return;
+    };
+    let size = inputs::slot_size(class) as u32;
+    while session.run(tester, ALLOCATE, size).number == 0 {}
+}
+
+// --- Random calls ---
+
+fn random_calls(tester: &mut Tester, rng: &mut Random, calls: u64) {
+    match rng.below(40) {
+        0 => wrong_lengths(tester, rng),
+        1 => (0..20).for_each(|_| {
+            tester.metadata_length(inputs::any_length(rng));
+        }),
+        2..=5 => (0..100).for_each(|_| random_vote(tester, rng)),
+        _ => random_session(tester, rng, calls),
+    }
+}
+
+fn random_guard(rng: &mut Random) -> usize {
+    rng.pick(&[0, 16])
+}
+
+fn random_vote(tester: &mut Tester, rng: &mut Random) {
+    let ballot = inputs::ballot(rng);
+    let guard = random_guard(rng);
+    let mut blocks = Twin::new(&ballot.blocks, guard);
+    let mut output = Twin::new(&ballot.output, guard);
+    tester.vote(&mut blocks, ballot.replicas, ballot.block_len, &mut output);
+}
+
+/// Calls on buffers whose lengths seldom belong together.
+fn wrong_lengths(tester: &mut Tester, rng: &mut Random) {
+    for _ in 0..10 {
+        let (guard, heap_len) = (random_guard(rng), inputs::heap_length(rng));
+        let heap = rng.bytes(heap_len);
+        let metadata_len = inputs::metadata_length(rng, heap_len);
+        let metadata = rng.bytes(metadata_len);
+        let shape = Shape {
+            region: (heap_len / CLASSES).max(1),
+        };
+        let mut session = Session {
+            shape,
+            heap: Twin::new(&heap, guard),
+            metadata: Twin::new(&metadata, guard),
+            guard,
+        };
+        let (z, w) = (rng.pick(&[0, 1, 9]), rng.pick(&[0, 1, 9]));
+        session.serve(tester, &random_request(rng, &session.shape, &[]), b"text");
+        session.open(tester, z, w);
+        session.serve(tester, &random_request(rng, &session.shape, &[]), b"text");
+    }
+}
+
+/// Any request, seldom damaged.
+fn random_request(rng: &mut Random, shape: &Shape, allocated: &[u32]) -> Vec<u8> {
+    let operation = rng.pick(&[0, 0, 0, 0, 0, 1, 1, 2, 3, 4, 5, 5]);
+    let argument = match operation {
+        ALLOCATE => inputs::size(rng),
+        _ => inputs::offset(rng, *shape, allocated),
+    };
+    let count = match operation {
+        COPY_PADDED => inputs::count(rng),
+        _ => 0,
+    };
+    let good = inputs::request(operation, argument, count);
+    if rng.once_in(25) {
+        inputs::damaged_request(rng, good)
+    } else {
+        good.to_vec()
+    }
+}
+
+/// A run of requests on one heap; some runs fill a single class.
+fn random_session(tester: &mut Tester, rng: &mut Random, calls: u64) {
+    let shape = Shape::random(rng);
+    let heap = rng.bytes(shape.heap_len());
+    let mut session = Session::new(shape, &heap, random_guard(rng));
+    let mut allocated = Vec::new();
+    if rng.once_in(3) {
+        let metadata = inputs::foreign_metadata(rng, shape);
+        session.metadata.replace(&metadata);
+    } else {
+        random_open(tester, rng, &mut session);
+    }
+    let class = rng.once_in(2).then(|| inputs::class(rng, shape));
+    for _ in 0..rng.between(1, 200) {
+        if tester.calls >= calls {
+            return;
+        }
+        random_step(tester, rng, &mut session, &mut allocated, class);
+    }
+}
+
+fn random_open(tester: &mut Tester, rng: &mut Random, session: &mut Session) {
+    let (z, w) = (
+        inputs::seed_word(rng, STUCK_Z),
+        inputs::seed_word(rng, STUCK_W),
+    );
+    session.open(tester, z, w);
+}
+
+fn random_step(
+    tester: &mut Tester,
+    rng: &mut Random,
+    session: &mut Session,
+    allocated: &mut Vec<u32>,
+    class: Option<usize>,
+) {
+    match (rng.below(100), class) {
+        (0, _) => random_open(tester, rng, session),
+        (1, _) => damage_metadata(rng, session),
+        (2..=70, Some(class)) => {
+            let size = inputs::size_in(rng, class);
+            let answer = session.run(tester, ALLOCATE, size);
+            remember(allocated, answer);
+        }
+        _ => {
+            let request = random_request(rng, &session.shape, allocated);
+            let answer = session.serve(tester, &request, &inputs::source(rng));
+            if request.first() == Some(&ALLOCATE) {
+                remember(allocated, answer);
+            }
+        }
+    }
+    if rng.once_in(64) {
+        cut_lengths(rng, session);
+        session.run(tester, ALLOCATE, 8);
+        session.show_all();
+    }
+}
+
+fn remember(allocated: &mut Vec<u32>, answer: Answer) {
+    if answer.number == 0 {
+        allocated.push(answer.value);
+    }
+}
+
+fn damage_metadata(rng: &mut Random, session: &mut Session) {
+    let mut metadata = session.metadata.bytes().to_vec();
+    inputs::damage(rng, &mut metadata);
+    session.metadata.replace(&metadata);
+}
+
+/// Shows the next call a shorter heap or shorter metadata.
+fn cut_lengths(rng: &mut Random, session: &mut Session) {
+    let cut = rng.pick(&[0, 1, 2, 8, 12]);
+    if rng.once_in(2) {
+        session.heap.show(session.heap.full_len() - cut);
+    } else {
+        session.metadata.show(session.metadata.full_len() - cut);
+    }
+}

@@ -1,0 +1,131 @@
+//! The proved library's C interface, with safe wrappers over slices.
+//! All unsafe code of this package is here.
+
+use crate::reference::{Answer, Verdict};
+
+extern "C" {
+    fn poheldu_open(
+        heap: *const u8,
+        heap_len: usize,
+        metadata: *mut u8,
+        metadata_len: usize,
+        z: u32,
+        w: u32,
+    ) -> Answer;
+
+    fn poheldu_serve(
+        heap: *mut u8,
+        heap_len: usize,
+        metadata: *mut u8,
+        metadata_len: usize,
+        request: *const u8,
+        request_len: usize,
+        source: *const u8,
+        source_len: usize,
+    ) -> Answer;
+
+    fn poheldu_vote(
+        blocks: *const u8,
+        blocks_len: usize,
+        replicas: usize,
+        block_len: usize,
+        output: *mut u8,
+        output_len: usize,
+    ) -> Verdict;
+
+    fn poheldu_metadata_length(heap_len: usize) -> usize;
+}
+
+/// How an empty slice is passed: by its own (dangling) address, or as NULL.
+#[derive(Clone, Copy, Debug, PartialEq, Eq)]
+pub enum Empty {
+    Dangling,
+    Null,
+}
+
+impl Empty {
+    fn shared(self, bytes: &[u8]) -> *const u8 {
+        match self {
+            Empty::Null if bytes.is_empty() => std::ptr::null(),
+            _ => bytes.as_ptr(),
+        }
+    }
+
+    fn unique(self, bytes: &mut [u8]) -> *mut u8 {
+        match self {
+            Empty::Null if bytes.is_empty() => std::ptr::null_mut(),
+            _ => bytes.as_mut_ptr(),
+        }
+    }
+}
+
+pub fn open(heap: &[u8], metadata: &mut [u8], z: u32, w: u32) -> Answer {
+    open_with(Empty::Dangling, heap, metadata, z, w)
+}
+
+pub fn serve(heap: &mut [u8], metadata: &mut [u8], request: &[u8], source: &[u8]) -> Answer {
+    serve_with(Empty::Dangling, heap, metadata, request, source)
+}
+
+pub fn vote(blocks: &[u8], replicas: usize, block_len: usize, output: &mut [u8]) -> Verdict {
+    vote_with(Empty::Dangling, blocks, replicas, block_len, output)
+}
+
+pub fn metadata_length(heap_len: usize) -> usize {
+    // SAFETY: the function takes and returns numbers only.
+    unsafe { poheldu_metadata_length(heap_len) }
+}
+
+/// `open`, with empty slices passed as `empty` says.
+pub fn open_with(empty: Empty, heap: &[u8], metadata: &mut [u8], z: u32, w: u32) -> Answer {
+    let (heap_len, metadata_len) = (heap.len(), metadata.len());
+    let (heap, metadata) = (empty.shared(heap), empty.unique(metadata));
+    // SAFETY: each pointer is valid for its length, or the length is 0.
+    unsafe { poheldu_open(heap, heap_len, metadata, metadata_len, z, w) }
+}
+
+/// `serve`, with empty slices passed as `empty` says.
+pub fn serve_with(
+    empty: Empty,
+    heap: &mut [u8],
+    metadata: &mut [u8],
+    request: &[u8],
+    source: &[u8],
+) -> Answer {
+    // SAFETY: each pointer is valid for its length, or the length is 0;
+    // the slices do not overlap where one of them is mutable.
+    unsafe {
+        poheldu_serve(
+            empty.unique(heap),
+            heap.len(),
+            empty.unique(metadata),
+            metadata.len(),
+            empty.shared(request),
+            request.len(),
+            empty.shared(source),
+            source.len(),
+        )
+    }
+}
+
+/// `vote`, with empty slices passed as `empty` says.
+pub fn vote_with(
+    empty: Empty,
+    blocks: &[u8],
+    replicas: usize,
+    block_len: usize,
+    output: &mut [u8],
+) -> Verdict {
+    // SAFETY: each pointer is valid for its length, or the length is 0;
+    // `replicas` and `block_len` are mere numbers that the library judges.
+    unsafe {
+        poheldu_vote(
+            empty.shared(blocks),
+            blocks.len(),
+            replicas,
+            block_len,
+            empty.unique(output),
+            output.len(),
+        )
+    }
+}

@@ -1,0 +1,438 @@
+//! Random, edge and damaged inputs for the differential test.
+
+use crate::random::Random;
+
+pub const CLASSES: usize = 12;
+/// Seeds whose half of the generator never moves: every draw is the same.
+pub const STUCK_Z: u32 = 0x9068_FFFF;
+pub const STUCK_W: u32 = 0x464F_FFFF;
+
+pub const HUGE: [usize; 10] = [
+    1 << 32,
+    (1 << 32) + 3,
+    (1 << 32) + 16,
+    (1 << 63) - 1,
+    1 << 63,
+    (1 << 63) + 1,
+    (1 << 63) + 4,
+    usize::MAX - 3,
+    usize::MAX - 1,
+    usize::MAX,
+];
+
+/// What inputs need to know of a heap whose regions are `region` bytes long.
+#[derive(Clone, Copy)]
+pub struct Shape {
+    pub region: usize,
+}
+
+impl Shape {
+    /// One of the eleven shapes; a shape twice as large comes half as often.
+    pub fn random(rng: &mut Random) -> Shape {
+        let shift = 10 + rng.long().trailing_ones().min(10);
+        Shape { region: 1 << shift }
+    }
+
+    pub fn all() -> impl Iterator<Item = Shape> {
+        (10..=20).map(|shift| Shape { region: 1 << shift })
+    }
+
+    pub fn heap_len(self) -> usize {
+        CLASSES * self.region
+    }
+
+    pub fn slots(self, class: usize) -> usize {
+        self.region / slot_size(class)
+    }
+
+    pub fn bitmap_start(self, class: usize) -> usize {
+        let before = (0..class).map(|class| self.slots(class).div_ceil(8));
+        8 + before.sum::<usize>()
+    }
+
+    pub fn metadata_len(self) -> usize {
+        self.bitmap_start(CLASSES)
+    }
+}
+
+pub fn slot_size(class: usize) -> usize {
+    8 << class
+}
+
+/// A well-formed request.
+pub fn request(operation: u8, argument: u32, count: u32) -> [u8; 16] {
+    let mut bytes = [0; 16];
+    bytes[0] = operation;
+    bytes[4..8].copy_from_slice(&argument.to_le_bytes());
+    bytes[8..12].copy_from_slice(&count.to_le_bytes());
+    bytes
+}
+
+/// A request with something wrong in it (or, rarely, nothing).
+pub fn damaged_request(rng: &mut Random, good: [u8; 16]) -> Vec<u8> {
+    let mut bytes = good.to_vec();
+    match rng.below(5) {
+        0 => bytes.resize(rng.pick(&[0, 1, 4, 8, 15, 17, 32, 40]), 0),
+        1 => bytes[0] = rng.pick(&[6, 7, 16, 64, 128, 129, 255]),
+        2 => bytes[0] = rng.byte(),
+        3 => rng.fill(&mut bytes),
+        _ => {
+            let at = rng.pick(&[1, 2, 3, 8, 9, 10, 11, 12, 13, 14, 15]);
+            bytes[at] = rng.pick(&[1, 2, 64, 128, 255]);
+        }
+    }
+    bytes
+}
+
+/// A size to allocate, often at the edge of a class.
+pub fn size(rng: &mut Random) -> u32 {
+    let class = rng.pick(&[0, 1, 2, 3, 4, 5, 6, 7, 8, 9, 10, 11, 0, 1, 2, 3, 4, 5, 6]);
+    match rng.below(16) {
+        0 => rng.pick(&[0, 16_385, 16_386, 32_768, 65_536, 1 << 31, u32::MAX]),
+        1 => rng.word(),
+        2..=5 => rng.between(1, 16_384) as u32,
+        6..=8 => slot_size(class) as u32 + 1,
+        9..=11 => slot_size(class) as u32 - 1,
+        _ => slot_size(class) as u32,
+    }
+}
+
+/// A class, mostly one that allows allocations.
+pub fn class(rng: &mut Random, shape: Shape) -> usize {
+    let open = (0..CLASSES).filter(|&class| shape.slots(class) > 1);
+    match rng.below(8) {
+        0 => rng.below(CLASSES),
+        _ => rng.below(open.count()),
+    }
+}
+
+/// A size that belongs to the class.
+pub fn size_in(rng: &mut Random, class: usize) -> u32 {
+    let high = slot_size(class);
+    let low = if class == 0 { 1 } else { high / 2 + 1 };
+    rng.between(low, high) as u32
+}
+
+/// A heap offset: of an object allocated before, of an edge, or any.
+pub fn offset(rng: &mut Random, shape: Shape, allocated: &[u32]) -> u32 {
+    let class = rng.below(CLASSES);
+    let start = class * shape.region;
+    let slot = start + rng.below(shape.region) / slot_size(class) * slot_size(class);
+    let near = match rng.below(16) {
+        0..=5 if !allocated.is_empty() => rng.pick(allocated) as usize,
+        6 => shape.heap_len(),
+        7 => start,
+        8 => start + shape.region,
+        9 => rng.below(shape.heap_len()),
+        10 => rng.pick(&[0, 1 << 31, u32::MAX - 1, u32::MAX]) as usize,
+        11 => rng.word() as usize,
+        _ => slot,
+    };
+    step(rng, near, shape) as u32
+}
+
+/// Moves an offset a little, or to somewhere in its slot, or not at all.
+fn step(rng: &mut Random, offset: usize, shape: Shape) -> usize {
+    let class = (offset / shape.region).min(CLASSES - 1);
+    let size = slot_size(class);
+    match rng.below(10) {
+        0 => offset + 1,
+        1 => offset.saturating_sub(1),
+        2 => offset + size - 1,
+        3 => offset + size / 2,
+        4 => offset + rng.below(size),
+        _ => offset,
+    }
+}
+
+pub fn count(rng: &mut Random) -> u32 {
+    let size = slot_size(rng.below(CLASSES)) as u32;
+    match rng.below(8) {
+        0 => rng.pick(&[0, 1, 2, 65_535, 65_536, 1 << 31, u32::MAX - 1, u32::MAX]),
+        1 => rng.word(),
+        2 => size + 1,
+        3 => size - 1,
+        4 => size,
+        _ => rng.below(size as usize + 1) as u32,
+    }
+}
+
+/// A copy's source: empty, short, or longer than any slot; with zeros or without.
+pub fn source(rng: &mut Random) -> Vec<u8> {
+    let size = slot_size(rng.below(CLASSES));
+    let len = match rng.below(10) {
+        0 => 0,
+        1 => rng.between(16_384, 20_000),
+        2 => size,
+        3 => size + 1,
+        4 => size - 1,
+        5 => rng.below(size + 1),
+        _ => rng.below(40),
+    };
+    let mut bytes = rng.bytes(len);
+    place_zeros(rng, &mut bytes);
+    bytes
+}
+
+fn place_zeros(rng: &mut Random, bytes: &mut [u8]) {
+    let kind = rng.below(8);
+    if kind == 0 {
+        return bytes.fill(0);
+    }
+    if kind < 6 {
+        bytes.iter_mut().for_each(|byte| *byte |= 1);
+    }
+    let Some(last) = bytes.len().checked_sub(1) else {
+        return;
+    };
+    match kind {
+        1 => bytes[0] = 0,
+        2 => bytes[last] = 0,
+        3 | 4 => bytes[rng.below(last + 1)] = 0,
+        _ => (),
+    }
+}
+
+/// A seed word: often one that leaves the generator stuck, seldom zero.
+pub fn seed_word(rng: &mut Random, stuck: u32) -> u32 {
+    match rng.below(12) {
+        0 => 0,
+        1..=3 => stuck,
+        4 => rng.pick(&[1, 2, 65_535, 65_536, u32::MAX]),
+        _ => rng.word(),
+    }
+}
+
+/// Metadata of the right length that no opening made.
+pub fn foreign_metadata(rng: &mut Random, shape: Shape) -> Vec<u8> {
+    let len = shape.metadata_len();
+    let mut bytes = match rng.below(8) {
+        0 => vec![0; len],
+        1 => vec![0xFF; len],
+        2 => rng.bytes(len),
+        3 => combine(rng, len, |a, b| a & b),
+        4 => combine(rng, len, |a, b| a | b),
+        5 => near_capacity(rng, shape),
+        _ => {
+            let open = (0..CLASSES).filter(|&class| shape.slots(class) >= 128);
+            let class = rng.below(open.count());
+            return trap(rng, shape, class);
+        }
+    };
+    if !rng.once_in(8) {
+        let (z, w) = (seed_word(rng, STUCK_Z), seed_word(rng, STUCK_W));
+        bytes[0..4].copy_from_slice(&z.to_le_bytes());
+        bytes[4..8].copy_from_slice(&w.to_le_bytes());
+    }
+    bytes
+}
+
+fn combine(rng: &mut Random, len: usize, with: fn(u8, u8) -> u8) -> Vec<u8> {
+    (0..len).map(|_| with(rng.byte(), rng.byte())).collect()
+}
+
+/// Each class has about half of its slots live, with stray bits beyond them.
+fn near_capacity(rng: &mut Random, shape: Shape) -> Vec<u8> {
+    let mut bytes = vec![0; shape.metadata_len()];
+    for class in 0..CLASSES {
+        let slots = shape.slots(class);
+        let bitmap = &mut bytes[shape.bitmap_start(class)..shape.bitmap_start(class + 1)];
+        let live = (slots / 2).saturating_sub(rng.below(3));
+        set_run(bitmap, slots, rng.below(slots.max(1)), live);
+        if slots < 8 && !bitmap.is_empty() {
+            bitmap[0] |= rng.byte() << slots;
+        }
+    }
+    bytes
+}
+
+/// Sets `live` bits from slot `first` on, going round the end.
+fn set_run(bitmap: &mut [u8], slots: usize, first: usize, live: usize) {
+    for index in (first..first + live).map(|index| index % slots) {
+        bitmap[index / 8] |= 1 << (index % 8);
+    }
+}
+
+/// Metadata whose next 32 draws in the class (or all but the last) meet live
+/// slots, so that the walk starts anywhere. The class has 128 slots or more.
+pub fn trap(rng: &mut Random, shape: Shape, class: usize) -> Vec<u8> {
+    let mut bytes = vec![0; shape.metadata_len()];
+    let (mut z, mut w) = (rng.word(), rng.word());
+    bytes[0..4].copy_from_slice(&z.to_le_bytes());
+    bytes[4..8].copy_from_slice(&w.to_le_bytes());
+    let slots = shape.slots(class);
+    let bitmap = &mut bytes[shape.bitmap_start(class)..];
+    for _ in 0..rng.pick(&[31, 32, 32, 32]) {
+        z = 36_969 * (z % 65_536) + z / 65_536;
+        w = 18_000 * (w % 65_536) + w / 65_536;
+        let slot = 65_536u32.wrapping_mul(z).wrapping_add(w) as usize % slots;
+        let live = rng.pick(&[1, 1, 1, 1, 1, 1, 1, 10]).min(slots - slot);
+        set_run(bitmap, slots, slot, live);
+    }
+    bytes
+}
+
+/// Changes a few bytes.
+pub fn damage(rng: &mut Random, bytes: &mut [u8]) {
+    for _ in 0..rng.between(1, 4) {
+        let at = rng.below(bytes.len());
+        bytes[at] = rng.byte();
+    }
+}
+
+/// A heap length that is seldom allowed.
+pub fn heap_length(rng: &mut Random) -> usize {
+    let right = Shape::random(rng).heap_len().min(12 << 14);
+    match rng.below(8) {
+        0 => rng.pick(&[0, 1, 11, 12, 24, 12 * 512, 12 * 1_023, 12 * 1_025]),
+        1 => right + rng.pick(&[1, 4, 11, 12, 1_024]),
+        2 => right - rng.pick(&[1, 4, 11, 12, 1_024]),
+        3 => right / 12 * rng.pick(&[1, 2, 4, 8, 11, 13, 16]),
+        4 => 12 * 1_024 * rng.pick(&[3, 5, 6, 7]),
+        5 => rng.below(12 * 4_096),
+        _ => right,
+    }
+}
+
+/// A metadata length for that heap, often wrong.
+pub fn metadata_length(rng: &mut Random, heap_len: usize) -> usize {
+    let shape = Shape {
+        region: heap_len / CLASSES,
+    };
+    let right = shape.metadata_len();
+    match rng.below(8) {
+        0 => 0,
+        1 => right + 1,
+        2 => right - 1,
+        3 => Shape::random(rng).metadata_len(),
+        4 => rng.below(200),
+        5 => rng.pick(&[1, 4, 7, 8, 9]),
+        _ => right,
+    }
+}
+
+/// Any heap length, as a number.
+pub fn any_length(rng: &mut Random) -> usize {
+    match rng.below(4) {
+        0 => rng.pick(&HUGE),
+        1 => rng.long() as usize,
+        2 => 12usize.wrapping_mul(1 << rng.below(64)),
+        _ => heap_length(rng),
+    }
+}
+
+/// The inputs of a vote: blocks, replicas, block length, output.
+pub struct Ballot {
+    pub blocks: Vec<u8>,
+    pub replicas: usize,
+    pub block_len: usize,
+    pub output: Vec<u8>,
+}
+
+pub fn ballot(rng: &mut Random) -> Ballot {
+    if rng.once_in(8) {
+        return huge_ballot(rng);
+    }
+    let replicas = match rng.below(6) {
+        0 => rng.below(18),
+        _ => rng.between(3, 16),
+    };
+    let block_len = block_length(rng);
+    let mut blocks = replica_blocks(rng, replicas, block_len);
+    if rng.once_in(12) {
+        blocks.resize(wrong_length(rng, blocks.len(), block_len), 7);
+    }
+    let output_len = output_length(rng, block_len);
+    Ballot {
+        blocks,
+        replicas,
+        block_len,
+        output: rng.bytes(output_len),
+    }
+}
+
+fn block_length(rng: &mut Random) -> usize {
+    match rng.below(24) {
+        0 => rng.pick(&[0, 4_097, 5_000]),
+        1 => rng.pick(&[4_095, 4_096, 4_097]),
+        2 => rng.between(1, 4_096),
+        3..=8 => rng.between(3, 100),
+        9..=15 => 2,
+        _ => 1,
+    }
+}
+
+/// Few distinct contents, which differ in one byte only.
+pub fn replica_blocks(rng: &mut Random, replicas: usize, block_len: usize) -> Vec<u8> {
+    let common = rng.bytes(block_len);
+    let distinct = rng.pick(&[1, 2, 2, 3, 4, 5, 8, 17]);
+    let at = match rng.below(3) {
+        0 => 0,
+        1 => block_len.saturating_sub(1),
+        _ => rng.below(block_len.max(1)),
+    };
+    let mut blocks = Vec::with_capacity(replicas * block_len);
+    for replica in 0..replicas {
+        let mut block = common.clone();
+        let kind = match distinct {
+            17 => replica,
+            _ => rng.below(distinct),
+        };
+        if let Some(byte) = block.get_mut(at) {
+            *byte ^= kind as u8;
+        }
+        blocks.extend(block);
+    }
+    blocks
+}
+
+fn wrong_length(rng: &mut Random, right: usize, block_len: usize) -> usize {
+    rng.pick(&[
+        0,
+        right + 1,
+        right.saturating_sub(1),
+        right + block_len,
+        right.saturating_sub(block_len),
+    ])
+}
+
+fn output_length(rng: &mut Random, block_len: usize) -> usize {
+    match rng.below(14) {
+        0 => block_len.saturating_sub(1),
+        1 => 0,
+        2 => rng.below(block_len + 1),
+        3 => block_len + 1,
+        4 => block_len + rng.below(300),
+        _ => block_len,
+    }
+}
+
+/// Numbers near 2^32, 2^63 and 2^64 beside small buffers; often their product
+/// wraps to the buffer's length.
+fn huge_ballot(rng: &mut Random) -> Ballot {
+    let small = rng.between(1, 16);
+    let (replicas, block_len) = match rng.below(6) {
+        0 => (rng.pick(&HUGE), small),
+        1 => (small, rng.pick(&HUGE)),
+        2 => (rng.pick(&HUGE), rng.pick(&HUGE)),
+        3 => (small, wrapping_partner(rng, small)),
+        4 => (wrapping_partner(rng, small), small),
+        _ => ((rng.below(3) << 32) + 3, (rng.below(3) << 32) + small),
+    };
+    let product = replicas.wrapping_mul(block_len);
+    let low = (replicas & 0xFF) * (block_len & 0xFF);
+    let len = if product <= 256 { product } else { low % 4_096 };
+    let output_len = rng.below(64);
+    Ballot {
+        blocks: vec![rng.byte(); len],
+        replicas,
+        block_len,
+        output: rng.bytes(output_len),
+    }
+}
+
+/// A number that multiplied by `small` just passes 2^64.
+fn wrapping_partner(rng: &mut Random, small: usize) -> usize {
+    let quotient = (1u128 << 64).div_ceil(small as u128);
+    (quotient as usize).wrapping_add(rng.below(8))
+}

@@ -1,0 +1,661 @@
+//! Second implementation of the allocator, written from the specification alone.
+//!
+//! The heap is twelve regions of equal length, one for each size class. The
+//! metadata holds the generator's state (z, w) and one bitmap for each class.
+
+use std::ops::Range;
+
+const CLASSES: usize = 12;
+/// Slots of class c are 2^(3 + c) bytes long.
+const SMALLEST_SLOT_SHIFT: u32 = 3;
+const LARGEST_SIZE: u32 = 16_384;
+/// A region is 2^10 to 2^20 bytes long.
+const REGION_SHIFTS: Range<u32> = 10..21;
+const LAYOUTS: usize = 11;
+/// z and w, four bytes each, stand before the bitmaps.
+const STATE_LENGTH: usize = 8;
+const REQUEST_LENGTH: usize = 16;
+const MOST_DRAWS: usize = 32;
+const MOST_REPLICAS: usize = 16;
+const LONGEST_BLOCK: usize = 4_096;
+
+/// What `open` and `serve` answer: refusal number (0: served) and value.
+#[derive(Clone, Copy, Debug, PartialEq, Eq)]
+#[repr(C)]
+pub struct Answer {
+    pub number: u32,
+    pub value: u32,
+}
+
+/// What `vote` answers; `value` counts the winners, `replica` is one of them.
+#[derive(Clone, Copy, Debug, PartialEq, Eq)]
+#[repr(C)]
+pub struct Verdict {
+    pub number: u32,
+    pub mask: u32,
+    pub value: u32,
+    pub replica: u32,
+}
+
+/// The refusals, with their numbers.
+#[derive(Clone, Copy, Debug, PartialEq, Eq)]
+#[repr(u32)]
+enum Refusal {
+    ZeroSeed = 1,
+    HeapLength = 2,
+    MetadataLength = 3,
+    MalformedRequest = 4,
+    UnsupportedSize = 5,
+    ClassTooSmall = 6,
+    ClassAtCapacity = 7,
+    OutOfRange = 8,
+    NotASlotStart = 9,
+    NotAllocated = 10,
+    InvalidVote = 11,
+    NoAgreement = 12,
+}
+
+impl From<Result<u32, Refusal>> for Answer {
+    fn from(outcome: Result<u32, Refusal>) -> Self {
+        match outcome {
+            Ok(value) => Answer { number: 0, value },
+            Err(refusal) => Answer {
+                number: refusal as u32,
+                value: 0,
+            },
+        }
+    }
+}
+
+/// Writes a fresh state into the metadata; the heap is not touched.
+pub fn open(heap: &[u8], metadata: &mut [u8], z: u32, w: u32) -> Answer {
+    try_open(heap, metadata, z, w).into()
+}
+
+/// Serves one request.
+pub fn serve(heap: &mut [u8], metadata: &mut [u8], request: &[u8], source: &[u8]) -> Answer {
+    try_serve(heap, metadata, request, source).into()
+}
+
+/// Finds the content that most replicas share and copies it to the output.
+pub fn vote(blocks: &[u8], replicas: usize, block_len: usize, output: &mut [u8]) -> Verdict {
+    match try_vote(blocks, replicas, block_len, output) {
+        Ok(mask) => Verdict {
+            number: 0,
+            mask,
+            value: mask.count_ones(),
+            replica: mask.trailing_zeros(),
+        },
+        Err(refusal) => Verdict {
+            number: refusal as u32,
+            mask: 0,
+            value: 0,
+            replica: 0,
+        },
+    }
+}
+
+/// Metadata length for a heap of this length; 0 where that is not allowed.
+pub fn metadata_length(heap_len: usize) -> usize {
+    Layout::of_heap(heap_len).map_or(0, Layout::metadata_length)
+}
+
+fn try_open(heap: &[u8], metadata: &mut [u8], z: u32, w: u32) -> Result<u32, Refusal> {
+    Layout::of_lengths(heap.len(), metadata.len())?;
+    if z == 0 || w == 0 {
+        return Err(Refusal::ZeroSeed);
+    }
+    metadata.fill(0);
+    Generator { z, w }.store(metadata);
+    Ok(0)
+}
+
+fn try_serve(
+    heap: &mut [u8],
+    metadata: &mut [u8],
+    request: &[u8],
+    source: &[u8],
+) -> Result<u32, Refusal> {
+    let layout = Layout::of_lengths(heap.len(), metadata.len())?;
+    match Request::read(request)? {
+        Request::Allocate { size } => allocate(layout, metadata, size),
+        Request::Free { offset } => free(layout, metadata, offset),
+        Request::Remaining { offset } => remaining(layout, metadata, offset),
+        Request::CopyBytes { offset } => {
+            let target = lend(layout, heap, metadata, offset)?;
+            Ok(copy_bytes(target, source))
+        }
+        Request::CopyString { offset } => {
+            let target = lend(layout, heap, metadata, offset)?;
+            Ok(copy_string(target, source))
+        }
+        Request::CopyPadded { offset, count } => {
+            let target = lend(layout, heap, metadata, offset)?;
+            Ok(copy_padded(target, source, count))
+        }
+    }
+}
+
+// --- Requests ---
+
+#[derive(Clone, Copy, Debug, PartialEq, Eq)]
+enum Request {
+    Allocate { size: u32 },
+    Free { offset: u32 },
+    Remaining { offset: u32 },
+    CopyBytes { offset: u32 },
+    CopyString { offset: u32 },
+    CopyPadded { offset: u32, count: u32 },
+}
+
+impl Request {
+    fn read(bytes: &[u8]) -> Result<Request, Refusal> {
+        let bytes: &[u8; REQUEST_LENGTH] =
+            bytes.try_into().map_err(|_| Refusal::MalformedRequest)?;
+        let [operation, s1, s2, s3, a0, a1, a2, a3, c0, c1, c2, c3, t0, t1, t2, t3] = *bytes;
+        let offset = u32::from_le_bytes([a0, a1, a2, a3]);
+        let count = u32::from_le_bytes([c0, c1, c2, c3]);
+        if [s1, s2, s3] != [0; 3] || [t0, t1, t2, t3] != [0; 4] {
+            return Err(Refusal::MalformedRequest);
+        }
+        match (operation, count) {
+            (0, 0) => Ok(Request::Allocate { size: offset }),
+            (1, 0) => Ok(Request::Free { offset }),
+            (2, 0) => Ok(Request::Remaining { offset }),
+            (3, 0) => Ok(Request::CopyBytes { offset }),
+            (4, 0) => Ok(Request::CopyString { offset }),
+            (5, _) => Ok(Request::CopyPadded { offset, count }),
+            _ => Err(Refusal::MalformedRequest),
+        }
+    }
+}
+
+// --- Layout ---
+
+/// Where each class's bitmap starts, for each region length; the entry past
+/// the last class is the metadata's length.
+static BITMAP_STARTS: [[usize; CLASSES + 1]; LAYOUTS] = bitmap_starts();
+
+const fn bitmap_starts() -> [[usize; CLASSES + 1]; LAYOUTS] {
+    let mut table = [[STATE_LENGTH; CLASSES + 1]; LAYOUTS];
+    let mut row = 0;
+    while row < LAYOUTS {
+        let region = 1usize << (REGION_SHIFTS.start + row as u32);
+        let mut class = 0;
+        while class < CLASSES {
+            let slots = region >> (SMALLEST_SLOT_SHIFT + class as u32);
+            table[row][class + 1] = table[row][class] + slots.div_ceil(8);
+            class += 1;
+        }
+        row += 1;
+    }
+    table
+}
+
+/// The division of a heap whose regions are 2^`shift` bytes long.
+#[derive(Clone, Copy)]
+struct Layout {
+    shift: u32,
+}
+
+/// A slot, by its class and its number there.
+#[derive(Clone, Copy)]
+struct Slot {
+    class: usize,
+    index: usize,
+}
+
+impl Layout {
+    fn of_heap(heap_len: usize) -> Result<Layout, Refusal> {
+        let region = heap_len / CLASSES;
+        let shift = region.trailing_zeros();
+        let whole = heap_len.is_multiple_of(CLASSES) && region.is_power_of_two();
+        if whole && REGION_SHIFTS.contains(&shift) {
+            Ok(Layout { shift })
+        } else {
+            Err(Refusal::HeapLength)
+        }
+    }
+
+    fn of_lengths(heap_len: usize, metadata_len: usize) -> Result<Layout, Refusal> {
+        let layout = Layout::of_heap(heap_len)?;
+        if metadata_len == layout.metadata_length() {
+            Ok(layout)
+        } else {
+            Err(Refusal::MetadataLength)
+        }
+    }
+
+    fn starts(self) -> &'static [usize; CLASSES + 1] {
+        &BITMAP_STARTS[(self.shift - REGION_SHIFTS.start) as usize]
+    }
+
+    fn metadata_length(self) -> usize {
+        self.starts()[CLASSES]
+    }
+
+    fn heap_length(self) -> usize {
+        CLASSES << self.shift
+    }
+
+    fn slots(self, class: usize) -> usize {
+        (1 << self.shift) >> slot_shift(class)
+    }
+
+    fn bitmap(self, class: usize) -> Range<usize> {
+        self.starts()[class]..self.starts()[class + 1]
+    }
+
+    fn slot_start(self, slot: Slot) -> u32 {
+        ((slot.class << self.shift) + (slot.index << slot_shift(slot.class))) as u32
+    }
+
+    /// The slot that an offset lies in; none where its region has no slots.
+    fn slot_at(self, offset: u32) -> Result<Option<Slot>, Refusal> {
+        let offset = offset as usize;
+        if offset >= self.heap_length() {
+            return Err(Refusal::OutOfRange);
+        }
+        let class = offset >> self.shift;
+        let within = offset & ((1 << self.shift) - 1);
+        let index = within >> slot_shift(class);
+        Ok((index < self.slots(class)).then_some(Slot { class, index }))
+    }
+}
+
+fn slot_shift(class: usize) -> u32 {
+    SMALLEST_SLOT_SHIFT + class as u32
+}
+
+/// The smallest class whose slots hold `size` bytes (1 to 16,384).
+fn class_of(size: u32) -> usize {
+    let shift = size.next_power_of_two().trailing_zeros();
+    shift.saturating_sub(SMALLEST_SLOT_SHIFT) as usize
+}
+
+// --- The generator ---
+
+/// G. Marsaglia's pair of multiply-with-carry generators.
+#[derive(Clone, Copy)]
+struct Generator {
+    z: u32,
+    w: u32,
+}
+
+impl Generator {
+    fn load(metadata: &[u8]) -> Generator {
+        let word = |at: usize| {
+            u32::from_le_bytes([
+                metadata[at],
+                metadata[at + 1],
+                metadata[at + 2],
+                metadata[at + 3],
+            ])
+        };
+        Generator {
+            z: word(0),
+            w: word(4),
+        }
+    }
+
+    fn store(self, metadata: &mut [u8]) {
+        metadata[0..4].copy_from_slice(&self.z.to_le_bytes());
+        metadata[4..8].copy_from_slice(&self.w.to_le_bytes());
+    }
+
+    /// Neither product overflows: the larger is 36,969 × 65,535 + 65,535.
+    fn draw(&mut self) -> u32 {
+        self.z = 36_969 * (self.z & 0xFFFF) + (self.z >> 16);
+        self.w = 18_000 * (self.w & 0xFFFF) + (self.w >> 16);
+        (self.z << 16).wrapping_add(self.w)
+    }
+}
+
+// --- Bitmaps ---
+
+fn is_live(bitmap: &[u8], index: usize) -> bool {
+    bitmap[index / 8] & (1 << (index % 8)) != 0
+}
+
+/// Counts the live slots; bits beyond the last slot do not count.
+fn count_live(bitmap: &[u8], slots: usize) -> usize {
+    if slots < 8 {
+        let used = bitmap[0] & ((1 << slots) - 1);
+        return used.count_ones() as usize;
+    }
+    let words = bitmap.chunks_exact(8);
+    let rest: u32 = words.remainder().iter().map(|byte| byte.count_ones()).sum();
+    let whole: u32 = words
+        .map(|word| u64::from_le_bytes(word.try_into().expect("eight bytes")).count_ones())
+        .sum();
+    (whole + rest) as usize
+}
+
+/// Draws a clear slot, or walks to the next one after 32 draws of live slots.
+/// The caller has seen that fewer than half of the slots are live.
+fn choose_slot(generator: &mut Generator, bitmap: &[u8], slots: usize) -> usize {
+    let mut tested = 0;
+    for _ in 0..MOST_DRAWS {
+        // The number of slots is a power of two.
+        tested = generator.draw() as usize & (slots - 1);
+        if !is_live(bitmap, tested) {
+            return tested;
+        }
+    }
+    (tested + 1..slots)
+        .chain(0..tested)
+        .find(|&index| !is_live(bitmap, index))
+        .expect("half of the slots are clear")
+}
+
+// --- The operations ---
+
+fn allocate(layout: Layout, metadata: &mut [u8], size: u32) -> Result<u32, Refusal> {
+    if size == 0 || size > LARGEST_SIZE {
+        return Err(Refusal::UnsupportedSize);
+    }
+    let class = class_of(size);
+    let slots = layout.slots(class);
+    if slots < 2 {
+        return Err(Refusal::ClassTooSmall);
+    }
+    let mut generator = Generator::load(metadata);
+    let bitmap = &mut metadata[layout.bitmap(class)];
+    if count_live(bitmap, slots) >= slots / 2 {
+        return Err(Refusal::ClassAtCapacity);
+    }
+    let index = choose_slot(&mut generator, bitmap, slots);
+    bitmap[index / 8] |= 1 << (index % 8);
+    generator.store(metadata);
+    Ok(layout.slot_start(Slot { class, index }))
+}
+
+fn free(layout: Layout, metadata: &mut [u8], offset: u32) -> Result<u32, Refusal> {
+    let slot = layout.slot_at(offset)?.ok_or(Refusal::NotASlotStart)?;
+    if layout.slot_start(slot) != offset {
+        return Err(Refusal::NotASlotStart);
+    }
+    let bitmap = &mut metadata[layout.bitmap(slot.class)];
+    if !is_live(bitmap, slot.index) {
+        return Err(Refusal::NotAllocated);
+    }
+    bitmap[slot.index / 8] &= !(1 << (slot.index % 8));
+    Ok(1 << slot_shift(slot.class))
+}
+
+/// Bytes from the offset to the end of the live object there; 0 if there is none.
+fn remaining(layout: Layout, metadata: &[u8], offset: u32) -> Result<u32, Refusal> {
+    let Some(slot) = layout.slot_at(offset)? else {
+        return Ok(0);
+    };
+    if !is_live(&metadata[layout.bitmap(slot.class)], slot.index) {
+        return Ok(0);
+    }
+    Ok(layout.slot_start(slot) + (1 << slot_shift(slot.class)) - offset)
+}
+
+/// The part of the heap that a copy may write.
+fn lend<'heap>(
+    layout: Layout,
+    heap: &'heap mut [u8],
+    metadata: &[u8],
+    offset: u32,
+) -> Result<&'heap mut [u8], Refusal> {
+    let space = remaining(layout, metadata, offset)? as usize;
+    let start = offset as usize;
+    Ok(&mut heap[start..start + space])
+}
+
+/// Copies the source, clipped to the target.
+fn copy_bytes(target: &mut [u8], source: &[u8]) -> u32 {
+    let length = source.len().min(target.len());
+    target[..length].copy_from_slice(&source[..length]);
+    length as u32
+}
+
+/// Copies through the first zero byte, or the whole source if it has none.
+fn copy_string(target: &mut [u8], source: &[u8]) -> u32 {
+    let clipped = &source[..source.len().min(target.len())];
+    let end = find_zero(clipped).map_or(clipped.len(), |zero| zero + 1);
+    copy_bytes(target, &clipped[..end])
+}
+
+/// Copies what stands before the first zero byte, then zeros up to `count`.
+fn copy_padded(target: &mut [u8], source: &[u8], count: u32) -> u32 {
+    let length = target.len().min(count as usize);
+    let target = &mut target[..length];
+    let clipped = &source[..source.len().min(length)];
+    let text = find_zero(clipped).unwrap_or(clipped.len());
+    target[..text].copy_from_slice(&clipped[..text]);
+    target[text..].fill(0);
+    length as u32
+}
+
+fn find_zero(bytes: &[u8]) -> Option<usize> {
+    bytes.iter().position(|&byte| byte == 0)
+}
+
+// --- The vote ---
+
+/// Returns the mask of the winning replicas.
+fn try_vote(
+    blocks: &[u8],
+    replicas: usize,
+    block_len: usize,
+    output: &mut [u8],
+) -> Result<u32, Refusal> {
+    let fits = (3..=MOST_REPLICAS).contains(&replicas)
+        && (1..=LONGEST_BLOCK).contains(&block_len)
+        && blocks.len() == replicas * block_len
+        && output.len() >= block_len;
+    if !fits {
+        return Err(Refusal::InvalidVote);
+    }
+    let mask = winners(blocks, block_len);
+    if mask.count_ones() < 2 {
+        return Err(Refusal::NoAgreement);
+    }
+    let start = mask.trailing_zeros() as usize * block_len;
+    output[..block_len].copy_from_slice(&blocks[start..start + block_len]);
+    Ok(mask)
+}
+
+/// The mask of the most shared content; the lowest replica decides a tie.
+fn winners(blocks: &[u8], block_len: usize) -> u32 {
+    let mut best = 0u32;
+    let mut seen = 0u32;
+    for (replica, block) in blocks.chunks_exact(block_len).enumerate() {
+        if seen & (1 << replica) != 0 {
+            continue;
+        }
+        let mask = sharers(blocks, block_len, replica, block);
+        seen |= mask;
+        if mask.count_ones() > best.count_ones() {
+            best = mask;
+        }
+    }
+    best
+}
+
+/// The mask of the replicas from `first` on that hold this block.
+fn sharers(blocks: &[u8], block_len: usize, first: usize, block: &[u8]) -> u32 {
+    blocks
+        .chunks_exact(block_len)
+        .enumerate()
+        .skip(first)
+        .filter(|(_, other)| *other == block)
+        .fold(0, |mask, (replica, _)| mask | 1 << replica)
+}
+
+#[cfg(test)]
+mod tests {
+    use super::*;
+
+    const HEAP: usize = 12 * 4_096;
+    const METADATA: usize = 138;
+
+    struct Bench {
+        heap: Vec<u8>,
+        metadata: Vec<u8>,
+    }
+
+    impl Bench {
+        fn open(z: u32, w: u32) -> Bench {
+            let heap = vec![0xEE; HEAP];
+            let mut metadata = vec![0xEE; METADATA];
+            assert_eq!(open(&heap, &mut metadata, z, w), served(0));
+            Bench { heap, metadata }
+        }
+
+        /// A bench with the object of the first allocation, at 640.
+        fn with_object() -> Bench {
+            let mut bench = Bench::open(1, 1);
+            assert_eq!(bench.run(0, 5, 0, &[]), served(640));
+            bench
+        }
+
+        fn run(&mut self, operation: u8, argument: u32, count: u32, source: &[u8]) -> Answer {
+            let mut request = [0; 16];
+            request[0] = operation;
+            request[4..8].copy_from_slice(&argument.to_le_bytes());
+            request[8..12].copy_from_slice(&count.to_le_bytes());
+            serve(&mut self.heap, &mut self.metadata, &request, source)
+        }
+    }
+
+    fn served(value: u32) -> Answer {
+        Answer { number: 0, value }
+    }
+
+    fn refused(number: u32) -> Answer {
+        Answer { number, value: 0 }
+    }
+
+    #[test]
+    fn draws_from_one_and_one() {
+        let mut generator = Generator { z: 1, w: 1 };
+        assert_eq!(generator.draw(), 2_422_818_384);
+        assert_eq!(generator.draw(), 1_583_405_312);
+        assert_eq!(generator.draw(), 3_876_119_375);
+    }
+
+    #[test]
+    fn draw_that_wraps() {
+        let mut generator = Generator { z: 5, w: 65_535 };
+        assert_eq!(generator.draw(), 408_730_032);
+    }
+
+    #[test]
+    fn metadata_after_the_first_allocation() {
+        let bench = Bench::with_object();
+        let mut expected = vec![0; METADATA];
+        for (at, byte) in [(0, 0x69), (1, 0x90), (4, 0x50), (5, 0x46), (18, 0x01)] {
+            expected[at] = byte;
+        }
+        assert_eq!(bench.metadata, expected);
+    }
+
+    #[test]
+    fn classes_of_eight_and_nine() {
+        assert_eq!((class_of(8), class_of(9)), (0, 1));
+        assert_eq!((class_of(1), class_of(16_384)), (0, 11));
+    }
+
+    #[test]
+    fn second_allocation_of_2048_is_at_capacity() {
+        let mut bench = Bench::open(1, 1);
+        assert_eq!(bench.run(0, 2_048, 0, &[]).number, 0);
+        assert_eq!(bench.run(0, 2_048, 0, &[]), refused(7));
+    }
+
+    #[test]
+    fn copy_of_bytes_is_clipped() {
+        let mut bench = Bench::with_object();
+        assert_eq!(bench.run(3, 643, 0, b"ABCDEFGH"), served(5));
+        assert_eq!(bench.heap[642..649], *b"\xEEABCDE\xEE");
+    }
+
+    #[test]
+    fn copy_of_a_string_ends_with_its_zero() {
+        let mut bench = Bench::with_object();
+        assert_eq!(bench.run(4, 640, 0, &[0x41, 0x42, 0, 0x43]), served(3));
+        assert_eq!(bench.heap[639..644], [0xEE, 0x41, 0x42, 0, 0xEE]);
+    }
+
+    #[test]
+    fn padded_copy_writes_zeros() {
+        let mut bench = Bench::with_object();
+        assert_eq!(bench.run(5, 640, 4, &[0x41, 0, 0x43]), served(4));
+        assert_eq!(bench.heap[639..645], [0xEE, 0x41, 0, 0, 0, 0xEE]);
+    }
+
+    #[test]
+    fn free_past_the_end_is_out_of_range() {
+        assert_eq!(Bench::open(1, 1).run(1, 49_152, 0, &[]), refused(8));
+    }
+
+    #[test]
+    fn vote_of_two_in_three() {
+        let mut output = [9, 9];
+        let verdict = vote(&[0x41, 0x42, 0x41], 3, 1, &mut output);
+        assert_eq!((verdict.number, verdict.mask, verdict.value), (0, 5, 2));
+        assert_eq!(output, [0x41, 9]);
+    }
+
+    #[test]
+    fn vote_with_a_tie() {
+        let mut output = [9];
+        let verdict = vote(&[0x42, 0x41, 0x41, 0x42], 4, 1, &mut output);
+        assert_eq!((verdict.number, verdict.mask, verdict.value), (0, 9, 2));
+        assert_eq!(output, [0x42]);
+    }
+
+    #[test]
+    fn vote_without_agreement() {
+        let mut output = [9];
+        let verdict = vote(&[0x41, 0x42, 0x43], 3, 1, &mut output);
+        let expected = Verdict {
+            number: 12,
+            mask: 0,
+            value: 0,
+            replica: 0,
+        };
+        assert_eq!(verdict, expected);
+        assert_eq!(output, [9]);
+    }
+
+    #[test]
+    fn eight_lines_of_the_bench_run() {
+        let mut bench = Bench::open(1, 1);
+        let lines = [
+            (0, 5, served(640)),
+            (0, 100, served(16_384)),
+            (1, 644, refused(9)),
+            (2, 643, served(5)),
+            (1, 640, served(8)),
+            (1, 640, refused(10)),
+            (0, 4_096, refused(6)),
+            (0, 0, refused(5)),
+        ];
+        for (operation, argument, expected) in lines {
+            assert_eq!(bench.run(operation, argument, 0, &[]), expected);
+        }
+    }
+
+    #[test]
+    fn metadata_lengths_of_the_document() {
+        assert_eq!(metadata_length(12 * 1_024), 42);
+        assert_eq!(metadata_length(12 * 4_096), 138);
+        assert_eq!(metadata_length(12 * 1_048_576), 32_768);
+        assert_eq!(metadata_length(12 * 512), 0);
+        assert_eq!(metadata_length(12 * 2_097_152), 0);
+    }
+
+    #[test]
+    fn walk_after_32_draws() {
+        let mut bench = Bench::open(1, 0x464F_FFFF);
+        for expected in [20_352, 16_384, 16_512] {
+            assert_eq!(bench.run(0, 128, 0, &[]), served(expected));
+        }
+    }
+}
