@@ -2,8 +2,9 @@
 # make test     the gate: proofs, must-fail edits, programs, and the tests below tests/
 # make lib      target/staticlib/libcapi.a, for C programs with include/poheldu.h
 # make fuzz     any bytes through the C interface, for FUZZ_SECONDS (60); wants clang
+# make expected writes crates/conformance/stdout anew, by the second implementation
 # make bench    ratios against the second implementation, memcpy, memcmp and malloc
-.PHONY: run test lib fuzz bench
+.PHONY: run test lib fuzz expected bench
 
 FUZZ_SECONDS ?= 60
 
@@ -21,6 +22,10 @@ fuzz: lib
 	@command -v clang > /dev/null || { echo "make fuzz: clang is not installed (Debian packages clang and libclang-rt-14-dev)"; exit 1; }
 	clang -g -O1 -fsanitize=fuzzer -Iinclude tests/fuzz/fuzz.c target/staticlib/libcapi.a -o target/fuzz
 	target/fuzz -max_total_time=$(FUZZ_SECONDS) -max_len=2000 -print_final_stats=1
+
+expected: lib
+	cd tests && cargo build --release --offline --quiet
+	target/tests/release/conformance < crates/conformance/stdin > crates/conformance/stdout
 
 bench: lib
 	rt check benchrun > target/bench.log 2>&1 || { tail -n 20 target/bench.log; exit 1; }

@@ -1,0 +1,201 @@
+use Prim.Native.Nat.{ℕ, _-_, _^_}
+use borrow.Rule.Slice.PartMut.{same-len-mid}
+use native.Mathlib.Omega.{arith}
+use mathlib.Core.Path.{_≡_, _∙_}
+use mathlib.Core.List.{List}
+use lib.ListN.{length, length-append}
+use Rattle.conformance.proofs.main.Statement.{statement}
+use Rattle.conformance.proofs.main.Tie as tie
+
+-- the arrays keep their lengths, also where a part was lent and is back
+record Kept (heap metadata header requests out : List ℕ) : Type 0 where
+  heap-length : length heap ≡ 98304
+  metadata-length : length metadata ≡ 4096
+  header-length : length header ≡ 16
+  requests-length : length requests ≡ 16384
+  out-length : length out ≡ 65536
+
+abbrev Inv-loop : tie.InvT-loop
+Inv-loop heap₀ metadata₀ header₀ requests₀ out₀ cases₀ t14 t15 t16 heap metadata header requests out cases = Kept heap metadata header requests out
+
+abbrev μ-loop : tie.MeasureT-loop
+μ-loop heap₀ metadata₀ header₀ requests₀ out₀ cases₀ t14 t15 t16 heap metadata header requests out cases = 2 ^ 32 - cases
+
+large-buffer-requires : tie.Need-large-buffer-requires Inv-loop μ-loop
+large-buffer-requires c κs = tt
+
+loop-holds : tie.Need-loop-holds Inv-loop μ-loop
+loop-holds c = omega arith
+
+slice-aggregate-read-full : tie.Need-slice-aggregate-read-full Inv-loop μ-loop
+slice-aggregate-read-full c = omega arith
+
+read-full-requires : tie.Need-read-full-requires Inv-loop μ-loop
+read-full-requires c κs = tt
+
+returns : tie.Need-returns Inv-loop μ-loop
+returns c = tt
+
+slice-aggregate-case-of : tie.Need-slice-aggregate-case-of Inv-loop μ-loop
+slice-aggregate-case-of c = omega arith
+
+case-of-requires : tie.Need-case-of-requires Inv-loop μ-loop
+case-of-requires c κs = omega arith
+
+sub-read-full : tie.Need-sub-read-full Inv-loop μ-loop
+sub-read-full c = omega arith
+
+part-requests-start : tie.Need-part-requests-start Inv-loop μ-loop
+part-requests-start c = omega arith
+
+part-requests-end : tie.Need-part-requests-end Inv-loop μ-loop
+part-requests-end c = omega arith
+
+read-full-requires-2 : tie.Need-read-full-requires-2 Inv-loop μ-loop
+read-full-requires-2 c κs = tt
+
+sub-run : tie.Need-sub-run Inv-loop μ-loop
+sub-run c = omega arith
+
+part-heap-start : tie.Need-part-heap-start Inv-loop μ-loop
+part-heap-start c = omega arith
+
+part-heap-end : tie.Need-part-heap-end Inv-loop μ-loop
+part-heap-end c = omega arith
+
+sub-run-2 : tie.Need-sub-run-2 Inv-loop μ-loop
+sub-run-2 c = omega arith
+
+part-metadata-start : tie.Need-part-metadata-start Inv-loop μ-loop
+part-metadata-start c = omega arith
+
+part-metadata-end : tie.Need-part-metadata-end Inv-loop μ-loop
+part-metadata-end c = omega arith
+
+sub-run-3 : tie.Need-sub-run-3 Inv-loop μ-loop
+sub-run-3 c = omega arith
+
+part-run-start : tie.Need-part-run-start Inv-loop μ-loop
+part-run-start c = omega arith
+
+part-run-end : tie.Need-part-run-end Inv-loop μ-loop
+part-run-end c = simp length-append (omega arith)
+
+slice-aggregate-run : tie.Need-slice-aggregate-run Inv-loop μ-loop
+slice-aggregate-run c = omega arith
+
+run-requires : tie.Need-run-requires Inv-loop μ-loop
+run-requires c κs = tt
+
+slice-aggregate-write-all : tie.Need-slice-aggregate-write-all Inv-loop μ-loop
+slice-aggregate-write-all c = omega arith
+
+write-all-requires : tie.Need-write-all-requires Inv-loop μ-loop
+write-all-requires c κs = tt
+
+cast-print-decimal : tie.Need-cast-print-decimal Inv-loop μ-loop
+cast-print-decimal c = omega arith
+
+print-decimal-requires : tie.Need-print-decimal-requires Inv-loop μ-loop
+print-decimal-requires c κs = tt
+
+slice-aggregate-write-all-2 : tie.Need-slice-aggregate-write-all-2 Inv-loop μ-loop
+slice-aggregate-write-all-2 c = omega arith
+
+write-all-requires-2 : tie.Need-write-all-requires-2 Inv-loop μ-loop
+write-all-requires-2 c κs = tt
+
+cast-print-decimal-2 : tie.Need-cast-print-decimal-2 Inv-loop μ-loop
+cast-print-decimal-2 c = omega arith
+
+print-decimal-requires-2 : tie.Need-print-decimal-requires-2 Inv-loop μ-loop
+print-decimal-requires-2 c κs = tt
+
+slice-aggregate-write-all-3 : tie.Need-slice-aggregate-write-all-3 Inv-loop μ-loop
+slice-aggregate-write-all-3 c = omega arith
+
+write-all-requires-3 : tie.Need-write-all-requires-3 Inv-loop μ-loop
+write-all-requires-3 c κs = tt
+
+sub-write-all : tie.Need-sub-write-all Inv-loop μ-loop
+sub-write-all c = omega arith
+
+part-write-all-start : tie.Need-part-write-all-start Inv-loop μ-loop
+part-write-all-start c = omega arith
+
+part-write-all-end : tie.Need-part-write-all-end Inv-loop μ-loop
+part-write-all-end c = omega arith
+
+write-all-requires-4 : tie.Need-write-all-requires-4 Inv-loop μ-loop
+write-all-requires-4 c κs = tt
+
+add-cases : tie.Need-add-cases Inv-loop μ-loop
+add-cases c = omega (arith, c .before .before .before .before .before .before .before .before .before .before .before .before .before)
+
+loop-less : tie.Need-loop-less Inv-loop μ-loop
+loop-less c = omega (arith, c .before .before .before .before .before .before .before .before .before .before .before .before .before)
+
+loop-again : tie.Need-loop-again Inv-loop μ-loop
+loop-again c =
+    let back = c .before .before .before .before .before .before .before .before .before .before .before .before .before in
+    let ran = back .before .before .before .run in
+    let read = back .before .before .before .before .before .before .before .before .before .before .read-full2 in
+    let case = back .before .before .before .before .before .before .before .before .before .before .before .before .case-of .result in
+    let l = back .before .before .before .before .before .before .before .before .before .before .before .before .before .before .before .before .before .before .before .loop in
+    record {
+      heap-length = same-len-mid 0 (case .heap - 0) (l .heap) (ran .last .0) (back .before .before .heap2 .given) ∙ l .inv .heap-length;
+      metadata-length = same-len-mid 0 (case .metadata - 0) (l .metadata) (ran .last .1 .0) (back .before .metadata2 .given) ∙ l .inv .metadata-length;
+      header-length = omega (arith, back);
+      requests-length = same-len-mid 0 (case .requests - 0) (l .requests) (read .last .1 .0) (back .before .before .before .before .before .before .before .before .before .requests2 .given) ∙ l .inv .requests-length;
+      out-length = omega (arith, back);
+    }
+
+returns-2 : tie.Need-returns-2 Inv-loop μ-loop
+returns-2 c = tt
+
+pub main-spec : {M : Type 1} → statement M
+main-spec =
+    tie.close
+    (tie.spec
+    Inv-loop
+    μ-loop
+    large-buffer-requires
+    loop-holds
+    slice-aggregate-read-full
+    read-full-requires
+    returns
+    slice-aggregate-case-of
+    case-of-requires
+    sub-read-full
+    part-requests-start
+    part-requests-end
+    read-full-requires-2
+    sub-run
+    part-heap-start
+    part-heap-end
+    sub-run-2
+    part-metadata-start
+    part-metadata-end
+    sub-run-3
+    part-run-start
+    part-run-end
+    slice-aggregate-run
+    run-requires
+    slice-aggregate-write-all
+    write-all-requires
+    cast-print-decimal
+    print-decimal-requires
+    slice-aggregate-write-all-2
+    write-all-requires-2
+    cast-print-decimal-2
+    print-decimal-requires-2
+    slice-aggregate-write-all-3
+    write-all-requires-3
+    sub-write-all
+    part-write-all-start
+    part-write-all-end
+    write-all-requires-4
+    add-cases
+    loop-less
+    loop-again
+    returns-2)

@@ -1,0 +1,115 @@
+// Runs cases from standard input: for each it opens a heap, serves requests on it, and prints a line for the opening and one for each request.
+//
+// A case is a header of four little-endian words, the heap's length, z, w and a number of requests, and then the requests, of sixteen bytes
+// each. A heap length above 98,304 counts as 98,304, and a number of requests above 1,024 as 1,024. The heap's bytes stay as the case before
+// left them, and so does the metadata where an opening is refused. A header that is cut short ends the run.
+use geometry::Layout;
+use libc::STDIN_FILENO;
+use libc::STDOUT_FILENO;
+ghost use mathlib.Core.Path.{_≡_};
+ghost use Prim.Native.Nat.{_+_, _≤_, min};
+ghost use lib.ListN.{length};
+ghost use Rattle.answer.specs.Reply.{Reply};
+ghost use Rattle.rules.specs.Metadata.{overwrite};
+ghost use Rattle.rules.specs.Open.{setup, openReply};
+ghost use Rattle.replay.specs.Batch.{batchLines, batchAfter};
+ghost use Rattle.conformance.specs.Case.{wordAt, caseOf, openedState};
+
+// The lengths of a case's heap, metadata and requests, and its seeds.
+struct Case {
+    heap: usize,
+    metadata: usize,
+    z: u32,
+    w: u32,
+    requests: usize,
+}
+
+// What a case came to: the opening's answer in numbers, and how many bytes its requests' lines have.
+struct Ran {
+    number: u32,
+    value: u32,
+    written: usize,
+}
+
+fn at_most(x: usize, most: usize) -> usize
+    ensures { λ r. ⌜ (r ≡ min x most) × (r ≤ most) ⌝ }
+{
+    if x < most { x } else { most }
+}
+
+fn word_at(header: &[u8], at: usize) -> u32
+    requires { ⌜ at + 4 ≤ length (now header) ⌝ }
+    ensures { λ r. ⌜ r ≡ wordAt (now (header .entry)) at ⌝ }
+{
+    words::get(&header[at..at + 4])
+}
+
+// Reads a header. No heap of at most 98,304 bytes has more than 266 bytes of metadata, so its length is never cut.
+fn case_of(header: &[u8]) -> Case
+    requires { ⌜ length (now header) ≡ 16 ⌝ }
+    ensures { λ r. ⌜ r ≡ caseOf (now (header .entry)) ⌝ }
+    ensures { λ r. ⌜ (r .heap ≤ 98304) × (r .metadata ≤ 4096) × (r .requests ≤ 16384) ⌝ }
+{
+    let heap = at_most(word_at(header, 0) as usize, 98304);
+    let requests = 16 * at_most(word_at(header, 12) as usize, 1024);
+    Case {
+        heap,
+        metadata: at_most(Layout::of(heap).metadata_length(), 4096),
+        z: word_at(header, 4),
+        w: word_at(header, 8),
+        requests,
+    }
+}
+
+// Opens the heap, and serves the requests whatever the opening answered.
+fn run(heap: &mut [u8], metadata: &mut [u8], z: u32, w: u32, requests: &[u8], out: &mut [u8]) -> Ran
+    ensures { λ r. ⌜ _≡_ {A = Reply} (record { number = r .number; value = r .value }) (openReply (length (now (heap .entry))) (length (now (metadata .entry))) (setup z w)) ⌝ }
+    ensures { λ r. ⌜ (r .written ≡ length (batchLines (length (now (out .entry))) (openedState (now (heap .entry)) (now (metadata .entry)) z w) 1 (now (requests .entry)))) × (r .written ≤ length (now (out .exit))) ⌝ }
+    ensures { λ _. ⌜ now (out .exit) ≡ overwrite (now (out .entry)) 0 (batchLines (length (now (out .entry))) (openedState (now (heap .entry)) (now (metadata .entry)) z w) 1 (now (requests .entry))) ⌝ }
+    ensures { λ _. ⌜ now (metadata .exit) ≡ batchAfter (length (now (out .entry))) (openedState (now (heap .entry)) (now (metadata .entry)) z w) 1 (now (requests .entry)) .metadata ⌝ }
+    ensures { λ _. ⌜ now (heap .exit) ≡ batchAfter (length (now (out .entry))) (openedState (now (heap .entry)) (now (metadata .entry)) z w) 1 (now (requests .entry)) .heap ⌝ }
+{
+    let answer = heap::open(heap, metadata, z, w);
+    let written = replay::batch(heap, metadata, requests, 1, out);
+    Ran {
+        number: answer.number(),
+        value: answer.value(),
+        written,
+    }
+}
+
+fn main() {
+    let mut heap = [0u8; 98304];
+    let mut metadata = [0u8; 4096];
+    let mut header = [0u8; 16];
+    let mut requests = [0u8; 16384];
+    let mut out = io::large_buffer();
+    let mut cases: u32 = 0;
+    // A proved loop ends: this one ends with the input, or after more cases than any input has.
+    while cases < u32::MAX {
+        if io::read_full(STDIN_FILENO, &mut header) < 16 {
+            return;
+        }
+        let case = case_of(&header);
+        let heap_len = case.heap;
+        let metadata_len = case.metadata;
+        let requests_len = case.requests;
+        let got = io::read_full(STDIN_FILENO, &mut requests[0..requests_len]);
+        let ran = run(
+            &mut heap[0..heap_len],
+            &mut metadata[0..metadata_len],
+            case.z,
+            case.w,
+            &requests[0..got],
+            &mut out,
+        );
+        let written = ran.written;
+        io::write_all(STDOUT_FILENO, b"open ");
+        io::print_decimal(STDOUT_FILENO, ran.number as u64);
+        io::write_all(STDOUT_FILENO, b" ");
+        io::print_decimal(STDOUT_FILENO, ran.value as u64);
+        io::write_all(STDOUT_FILENO, b"\n");
+        io::write_all(STDOUT_FILENO, &out[0..written]);
+        cases += 1;
+    }
+}

@@ -1,0 +1,48 @@
+//! By the second implementation, what the program `conformance` prints for the cases on standard input: a header of four words (the heap's
+//! length, z, w, the number of requests) and then the requests of each.
+
+use poheldu_tests::reference;
+use std::io::{self, Read, Write};
+
+const HEAP: usize = 98_304;
+const REQUESTS: usize = 1024;
+
+fn word(bytes: &[u8], at: usize) -> u32 {
+    u32::from_le_bytes(bytes[at..at + 4].try_into().expect("four bytes"))
+}
+
+/// Takes up to `most` bytes off the front of the input.
+fn take<'a>(input: &mut &'a [u8], most: usize) -> &'a [u8] {
+    let (front, rest) = input.split_at(most.min(input.len()));
+    *input = rest;
+    front
+}
+
+/// Metadata for a heap of this length; that of no heap is as long as its fields.
+fn metadata_length(heap_len: usize) -> usize {
+    match reference::metadata_length(heap_len) {
+        0 => 8,
+        len => len,
+    }
+}
+
+fn main() -> io::Result<()> {
+    let mut all = Vec::new();
+    io::stdin().lock().read_to_end(&mut all)?;
+    let mut input = &all[..];
+    let mut out = io::BufWriter::new(io::stdout().lock());
+    let (mut heap, mut metadata) = (vec![0; HEAP], vec![0; 4096]);
+    while input.len() >= 16 {
+        let header = take(&mut input, 16);
+        let heap = &mut heap[..HEAP.min(word(header, 0) as usize)];
+        let metadata = &mut metadata[..metadata_length(heap.len())];
+        let opened = reference::open(heap, metadata, word(header, 4), word(header, 8));
+        writeln!(out, "open {} {}", opened.number, opened.value)?;
+        let requests = take(&mut input, 16 * REQUESTS.min(word(header, 12) as usize));
+        for (i, request) in requests.chunks(16).enumerate() {
+            let answer = reference::serve(heap, metadata, request, &[]);
+            writeln!(out, "{} {} {}", i + 1, answer.number, answer.value)?;
+        }
+    }
+    out.flush()
+}
