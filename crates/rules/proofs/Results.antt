@@ -26,17 +26,17 @@ use Rattle.rules.proofs.Effects.{liveBit, Takes, Ends, Changed, allocat
 
 -- ---- a request's outcome
 
--- what a request does to the slots: nothing, or slot i of class c is now v
+-- what a request does to the slots: nothing, or slot i of class c turns to v
 pub data Change : Type 0 where
   none : Change
-  now : (v c i : ℕ) → Change
+  turn : (v c i : ℕ) → Change
 
 -- each request with its outcome and its change
 pub data Result (G : Layout) (m : List ℕ) : Parsed → Outcome → Change → Type 0 where
   refusal : (p : Parsed) (r : Refusal) → Result G m p (refused r) none
   allocation : (size : ℕ) {c i : ℕ} {g : Generator} → c ≡ classOf G size → allocated c i g ≡ taken G m c → Takes G m c i
-      → Result G m (Whole (Allocate size)) (allocated c i g) (now 1 c i)
-  freeing : (offset : ℕ) {c i : ℕ} → offset ≡ slotStart G c i → Ends G m c i → Result G m (Whole (Free offset)) (freed c i) (now 0 c i)
+      → Result G m (Whole (Allocate size)) (allocated c i g) (turn 1 c i)
+  freeing : (offset : ℕ) {c i : ℕ} → offset ≡ slotStart G c i → Ends G m c i → Result G m (Whole (Free offset)) (freed c i) (turn 0 c i)
   measuring : (q : Request) → Measures q → (value offset : ℕ) (bytes : List ℕ) → Result G m (Whole q) (told value offset bytes) none
 
 -- an outcome's step, and its event
@@ -84,10 +84,10 @@ module _ (G : Layout) (m : List ℕ) where
   pub result : length m ≡ metadataLength G → (source : List ℕ) (p : Parsed) → (x : Change) × Result G m p (act G m source p) x
   result fits source (Whole (Allocate size)) =
       served-or-refused _ (allocate-comes size)
-      (λ e. let (class, takes) = allocate-takes G m fits size e in (now 1 _ _, allocation size class refl takes))
+      (λ e. let (class, takes) = allocate-takes G m fits size e in (turn 1 _ _, allocation size class refl takes))
   result fits source (Whole (Free offset)) =
       served-or-refused _ (free-comes offset)
-      (λ e. let (start, ends) = free-ends G m fits offset e in (now 0 _ _, freeing offset start ends))
+      (λ e. let (start, ends) = free-ends G m fits offset e in (turn 0 _ _, freeing offset start ends))
   result fits source (Whole (Remaining offset)) = served-or-refused _ (remaining-comes offset) (λ e. (none, measuring _ tt _ _ _))
   result fits source (Whole (CopyBytes offset)) = served-or-refused _ (copy-comes offset source) (λ e. (none, measuring _ tt _ _ _))
   result fits source (Whole (CopyString offset)) =
@@ -101,7 +101,7 @@ module _ (G : Layout) (m : List ℕ) where
 -- what a change finds and leaves
 abbrev pub Made : Layout → List ℕ → List ℕ → Change → Type 0
 Made G m m′ none = m′ ≡ m
-Made G m m′ (now v c i) = (i < slots G c) × (liveBit G m c i + v ≡ 1) × Changed G m m′ c i v
+Made G m m′ (turn v c i) = (i < slots G c) × (liveBit G m c i + v ≡ 1) × Changed G m m′ c i v
 
 -- each result makes its change
 pub made : (G : Layout) (m : List ℕ) → length m ≡ metadataLength G → {p : Parsed} {o : Outcome} {x : Change}
@@ -115,18 +115,18 @@ module _ (G : Layout) (m m′ : List ℕ) where
   -- the metadata keeps its length
   pub made-length : (x : Change) → Made G m m′ x → length m′ ≡ length m
   made-length none e = rw e
-  made-length (now v c i) h = h .2 .fits
+  made-length (turn v c i) h = h .2 .fits
 
   -- a slot's bit does change
-  moved : {v c i : ℕ} → Made G m m′ (now v c i) → liveBit G m′ c i ≡ liveBit G m c i → ⊥
+  moved : {v c i : ℕ} → Made G m m′ (turn v c i) → liveBit G m′ c i ≡ liveBit G m c i → ⊥
   moved h e = let here = h .2 .here in omega arith
 
   -- the metadata before and after tell the change
   pub same-change : (x y : Change) → Made G m m′ x → Made G m m′ y → x ≡ y
   same-change none none h k = refl
-  same-change none (now v c i) h k = absurd (moved k (rw h))
-  same-change (now v c i) none h k = absurd (moved h (rw k))
-  same-change (now v c i) (now w d j) h k = elim (Dec·and (ℕ-discrete c d) (ℕ-discrete i j)) [
+  same-change none (turn v c i) h k = absurd (moved k (rw h))
+  same-change (turn v c i) none h k = absurd (moved h (rw k))
+  same-change (turn v c i) (turn w d j) h k = elim (Dec·and (ℕ-discrete c d) (ℕ-discrete i j)) [
     | yes e ↦ let v≡w : v ≡ w = cc in cc
     | no e ↦ absurd (moved h (k .2 .elsewhere c i (h .0) e))
   ]

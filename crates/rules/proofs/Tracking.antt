@@ -21,7 +21,7 @@ use Rattle.rules.specs.Pair.{Measures}
 use Rattle.rules.specs.Live.{Object, without, servedAfter, objectsAfter, ofClass, Sound}
 use Rattle.answer.proofs.Numbers.{refusal-number}
 use Rattle.rules.proofs.Effects.{liveBit, Takes, fresh-clear}
-use Rattle.rules.proofs.Results.{Change, now, Made, Result, refusal, allocation, freeing, measuring, eventBy}
+use Rattle.rules.proofs.Results.{Change, turn, Made, Result, refusal, allocation, freeing, measuring, eventBy}
 use Rattle.rules.proofs.Objects.{IsSlot, Slots, starting, without-slots, class-parts, starting-gone, starting-kept, same-start, starting-self, holding-one}
 
 -- ---- counts of a bitmap
@@ -73,7 +73,7 @@ measuring-leaves G os (CopyPadded offset count) value h = refl
 
 module _ (G : Layout) (m m′ : List ℕ) (os : List Object) (t : Tracks G m os) where
   -- a bit changes, and the objects change with it at that slot and nowhere else
-  change-tracks : {v c i : ℕ} → Made G m m′ (now v c i) → (os′ : List Object) → Slots G os′
+  change-tracks : {v c i : ℕ} → Made G m m′ (turn v c i) → (os′ : List Object) → Slots G os′
       → (here : starting c (slotStart G c i) os′ ≡ v)
       → (elsewhere : (d y : ℕ) → (slotStart G c i ≡ y → ⊥) → starting d y os′ ≡ starting d y os)
       → (own : ofClass c os′ + liveBit G m c i ≡ ofClass c os + v)
@@ -108,7 +108,7 @@ module _ (G : Layout) (m m′ : List ℕ) (os : List Object) (t : Tracks G m os)
       half d = elim (ℕ-discrete d c) [ yes p ↦ rw p room | no n ↦ omega (arith, others d n, t .half d) ]
 
   -- an allocation adds the slot that it took, and a free takes away the one that it ended
-  allocation-tracks : {c i : ℕ} → Takes G m c i → Made G m m′ (now 1 c i) → Tracks G m′ (record { start = slotStart G c i; class = c } ∷ os)
+  allocation-tracks : {c i : ℕ} → Takes G m c i → Made G m m′ (turn 1 c i) → Tracks G m′ (record { start = slotStart G c i; class = c } ∷ os)
   unfolding starting ofClass
   allocation-tracks {c} {i} takes made =
       let o : Object = record { start = slotStart G c i; class = c } in
@@ -120,7 +120,7 @@ module _ (G : Layout) (m m′ : List ℕ) (os : List Object) (t : Tracks G m os)
       (λ d n. rw (ne-eqb c d (λ e. n (sym e))) (omega arith))
       (rw (eq-eqb c c refl) (omega (arith, t .counts c)))
 
-  free-tracks : {c i : ℕ} → Made G m m′ (now 0 c i) → Tracks G m′ (without (slotStart G c i) os)
+  free-tracks : {c i : ℕ} → Made G m m′ (turn 0 c i) → Tracks G m′ (without (slotStart G c i) os)
   free-tracks {c} {i} made =
       let x : ℕ = slotStart G c i in
       change-tracks made (without x os) (without-slots x G os (t .are-slots))
