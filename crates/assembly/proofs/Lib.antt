@@ -1,5 +1,0 @@
-pub mod Names
-pub mod Digits
-pub mod Reading
-pub mod Saying
-pub mod Examples
