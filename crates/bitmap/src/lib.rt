@@ -1,16 +1,11 @@
 // One class's bitmap: the bytes that hold it and how many slots it has. Bits beyond the slots are neither tested, counted nor changed.
+use numbers::wide;
 ghost use mathlib.Core.Path.{_≡_};
 ghost use Prim.Native.Nat.{_-_, _*_, _/_, _%_, _^_, _<_, _≤_};
 ghost use lib.ListN.{length};
 ghost use Rattle.search.specs.First.{first};
 ghost use lib.Count.{onesIn};
 ghost use Rattle.bitmap.specs.Bitmap.{isSet, isClear, setSlot, clearSlot, countSet, nextClear};
-
-fn wide(x: u32) -> usize
-    ensures { λ r. ⌜ r ≡ x ⌝ }
-{
-    x as usize
-}
 
 // A bit of a byte, counted from the lowest.
 fn bit_of(byte: u8, place: usize) -> u8

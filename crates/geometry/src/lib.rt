@@ -1,4 +1,8 @@
 // Where things lie: the regions and slots of a heap, and the bitmaps of its metadata.
+use numbers::least;
+use numbers::quotient;
+use numbers::remainder;
+use numbers::wide;
 ghost use mathlib.Core.Path.{_≡_};
 ghost use Prim.Native.Nat.{suc, min, _/_, _%_, _^_, _<_, _≤_};
 ghost use Rattle.geometry.specs.Layout.{classes, layoutOf, slotSize, slots, classOf, locate, bitmapLength, bitmapAt, metadataLength};
@@ -20,39 +24,12 @@ pub struct Location {
     pub into: usize,
 }
 
-fn wide(x: u32) -> usize
-    ensures { λ r. ⌜ (r ≡ x) × (r < 4294967296) ⌝ }
-{
-    x as usize
-}
-
-// a / b as the definitions have it: 0 where b is.
-fn quotient(a: usize, b: usize) -> usize
-    ensures { λ r. ⌜ (r ≡ a / b) × (r ≤ a) ⌝ }
-{
-    if b == 0 { 0 } else { a / b }
-}
-
-// a % b as the definitions have it: a where b is 0.
-fn remainder(a: usize, b: usize) -> usize
-    ensures { λ r. ⌜ r ≡ a % b ⌝ }
-{
-    if b == 0 { a } else { a % b }
-}
-
 // A power of two that a region length can be.
 fn power(exponent: u32) -> u32
     requires { ⌜ exponent < 21 ⌝ }
     ensures { λ r. ⌜ (r ≡ 2 ^ exponent) × (r ≤ 1048576) ⌝ }
 {
     1 << exponent
-}
-
-// A number of classes, at most all of them: the classes past the last have no bitmap.
-fn at_most_all(class: usize) -> usize
-    ensures { λ r. ⌜ r ≡ min class classes ⌝ }
-{
-    if class < CLASSES { class } else { CLASSES }
 }
 
 impl Layout {
@@ -123,7 +100,7 @@ impl Layout {
     pub fn bitmap_start(self, class: usize) -> usize
         ensures { λ r. ⌜ r ≡ bitmapAt self class ⌝ }
     {
-        let last = at_most_all(class);
+        let last = least(class, CLASSES);
         let mut at = HEADER;
         let mut passed = 0;
         while passed < last {
@@ -137,7 +114,7 @@ impl Layout {
     pub fn bitmap_end(self, class: usize) -> usize
         ensures { λ r. ⌜ r ≡ bitmapAt self (suc class) ⌝ }
     {
-        self.bitmap_start(at_most_all(class) + 1)
+        self.bitmap_start(least(class, CLASSES) + 1)
     }
 
     pub fn metadata_length(self) -> usize

@@ -19,7 +19,7 @@ use Rattle.rules.specs.Metadata.{generatorOf, fieldsOf, bitmapOf, overwrite}
 use Rattle.rules.specs.Outcome.{refused, reply, metadataAfter}
 use Rattle.rules.specs.Allocate.{draws, probe, taken, allocate}
 use Rattle.heap.proofs.Part.{part-bitmap, bitmap-back}
-use Rattle.heap.proofs.Probe.{probe-le}
+use Rattle.probe.proofs.Probe.{probe-le}
 
 -- ---- taking a slot
 

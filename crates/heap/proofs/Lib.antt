@@ -1,9 +1,7 @@
 pub mod Part
 pub mod Opening
-pub mod Probe
 pub mod Allocating
 pub mod Live
 pub mod Freeing
-pub mod Clip
 pub mod Copying
 pub mod Performing

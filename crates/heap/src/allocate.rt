@@ -1,46 +1,17 @@
 // Allocating: a random slot of the smallest class that holds the size.
 use crate::fields;
-use crate::wide;
 use answer::Answer;
 use answer::Refusal;
 use geometry::CLASSES;
 use geometry::Layout;
-use mwc::Generator;
-use rules::Found;
+use numbers::wide;
 ghost use mathlib.Core.Path.{_≡_};
 ghost use Prim.Native.Nat.{_≤_, _<_};
 ghost use lib.ListN.{length};
 ghost use Rattle.geometry.specs.Layout.{classes, slots, slotStart, metadataLength};
 ghost use Rattle.answer.specs.Reply.{replyOf};
 ghost use Rattle.rules.specs.Outcome.{reply, metadataAfter};
-ghost use Rattle.rules.specs.Allocate.{draws, probe, taken, allocate};
-
-const DRAWS: usize = 32;
-
-// The slot that the draws choose, or the next clear one above the last slot tested where all of them meet set slots.
-fn search(bitmap: &[u8], slots: usize, start: Generator) -> Found
-    requires { ⌜ 0 < slots ⌝ }
-    ensures { λ r. ⌜ r ≡ probe (now (bitmap .entry)) slots start 0 draws ⌝ }
-{
-    let mut generator = start;
-    let mut last: usize = 0;
-    let mut left: usize = DRAWS;
-    while 0 < left {
-        generator = generator.advance();
-        last = wide(generator.draw()) % slots;
-        if !bitmap::is_set(bitmap, slots, last) {
-            return Found {
-                slot: last,
-                generator,
-            };
-        }
-        left -= 1;
-    }
-    Found {
-        slot: bitmap::next_clear(bitmap, slots, last),
-        generator,
-    }
-}
+ghost use Rattle.rules.specs.Allocate.{taken, allocate};
 
 // The value of a slot: where it starts in the heap.
 fn slot_start(layout: Layout, class: usize, slot: usize) -> u32
@@ -60,7 +31,7 @@ fn take(metadata: &mut [u8], layout: Layout, class: usize) -> Answer
     let start = layout.bitmap_start(class);
     let end = layout.bitmap_end(class);
     let seeds = fields::generator(metadata);
-    let found = search(&metadata[start..end], slots, seeds);
+    let found = probe::find(&metadata[start..end], slots, seeds);
     let slot = found.slot;
     bitmap::set(&mut metadata[start..end], slots, slot);
     fields::store(metadata, found.generator);

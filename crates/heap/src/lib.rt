@@ -12,30 +12,13 @@ use request::Parsed;
 use request::Request;
 use rules::Kind;
 ghost use mathlib.Core.Path.{_≡_};
-ghost use Prim.Native.Nat.{_≤_, _<_};
-ghost use lib.ListN.{length, replicate};
+ghost use Prim.Native.Nat.{_≤_};
+ghost use lib.ListN.{length};
 ghost use Rattle.geometry.specs.Layout.{layoutOf, metadataLength, heapLength};
 ghost use Rattle.answer.specs.Reply.{replyOf};
 ghost use Rattle.rules.specs.Open.{setup, openReply, opened};
 ghost use Rattle.rules.specs.Outcome.{reply, metadataAfter, heapAfter};
 ghost use Rattle.rules.specs.Serve.{perform, serve};
-
-fn wide(x: u32) -> usize
-    ensures { λ r. ⌜ (r ≡ x) × (r < 4294967296) ⌝ }
-{
-    x as usize
-}
-
-// Writes zeros throughout.
-fn clear(bytes: &mut [u8])
-    ensures { λ _. ⌜ now (bytes .exit) ≡ replicate (length (now (bytes .entry))) 0 ⌝ }
-{
-    let mut i = 0;
-    while i < bytes.len() {
-        bytes[i] = 0;
-        i += 1;
-    }
-}
 
 // Writes fresh metadata for a heap of this length. The heap's bytes are left alone.
 pub fn open(heap: &[u8], metadata: &mut [u8], z: u32, w: u32) -> Answer
@@ -55,7 +38,7 @@ pub fn open(heap: &[u8], metadata: &mut [u8], z: u32, w: u32) -> Answer
     if w == 0 {
         return Answer::Refused(Refusal::ZeroSeed);
     }
-    clear(metadata);
+    fill::clear(metadata);
     fields::store(metadata, Generator { z, w });
     Answer::Served(0)
 }

@@ -1,9 +1,9 @@
 // Freeing an object, and its remaining size.
-use crate::wide;
 use answer::Answer;
 use answer::Refusal;
 use geometry::CLASSES;
 use geometry::Layout;
+use numbers::wide;
 ghost use mathlib.Core.Path.{_≡_};
 ghost use Prim.Native.Nat.{_+_, _≤_, _<_};
 ghost use lib.ListN.{length};

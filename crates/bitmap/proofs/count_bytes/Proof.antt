@@ -27,7 +27,7 @@ wide-requires c κs = search needs
 loop-again : tie.Need-loop-again Inv-loop μ-loop
 loop-again c = (
   omega arith,
-  rw (c .before .before .before .loop .inv .1, c .wide .ensures) (count-byte _ _ (c .before .shared-slice-known2 .given _ .fits)),
+  rw (c .before .before .before .loop .inv .1, c .wide .ensures .0) (count-byte _ _ (c .before .shared-slice-known2 .given _ .fits)),
 )
 
 add-total : tie.Need-add-total Inv-loop μ-loop

@@ -21,7 +21,7 @@ wide-requires : tie.Need-wide-requires
 wide-requires c κs = search needs
 
 returns : tie.Need-returns
-returns c = c .wide .ensures ∙ rw (weight 1 _ (lit< tt) (c .before .pre), one-mul) (ones-mod _ _)
+returns c = c .wide .ensures .0 ∙ rw (weight 1 _ (lit< tt) (c .before .pre), one-mul) (ones-mod _ _)
 
 pub ones-below-spec : {M : Type 1} → statement M
 ones-below-spec = tie.close (tie.spec cast-wide shl-wide rem-wide wide-requires returns)

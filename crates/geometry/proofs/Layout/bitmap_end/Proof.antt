@@ -4,8 +4,8 @@ use Rattle.geometry.proofs.Geometry.{bitmap-same}
 use Rattle.geometry.proofs.Layout.bitmap_end.Statement.{statement}
 use Rattle.geometry.proofs.Layout.bitmap_end.Tie as tie
 
-at-most-all-requires : tie.Need-at-most-all-requires
-at-most-all-requires c κs = search needs
+least-requires : tie.Need-least-requires
+least-requires c κs = search needs
 
 add-bitmap-start : tie.Need-add-bitmap-start
 add-bitmap-start c = search needs
@@ -18,4 +18,4 @@ returns c = bitmap-same _ _ _ (c .bitmap-start .ensures) (omega arith)
 
 pub bitmap-end-spec : {M : Type 1} → statement M
 bitmap-end-spec =
-    tie.close (tie.spec at-most-all-requires add-bitmap-start bitmap-start-requires returns)
+    tie.close (tie.spec least-requires add-bitmap-start bitmap-start-requires returns)

@@ -12,8 +12,8 @@ Inv-loop self class last at₀ passed₀ at passed = (passed ≤ last) × (at �
 abbrev μ-loop : tie.MeasureT-loop
 μ-loop self class last at₀ passed₀ at passed = last - passed
 
-at-most-all-requires : tie.Need-at-most-all-requires Inv-loop μ-loop
-at-most-all-requires c κs = tt
+least-requires : tie.Need-least-requires Inv-loop μ-loop
+least-requires c κs = tt
 
 loop-holds : tie.Need-loop-holds Inv-loop μ-loop
 unfolding bitmapAt
@@ -44,7 +44,7 @@ bitmap-start-spec =
     (tie.spec
     Inv-loop
     μ-loop
-    at-most-all-requires
+    least-requires
     loop-holds
     bitmap-length-requires
     add-at

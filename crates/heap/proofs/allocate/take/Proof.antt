@@ -20,17 +20,17 @@ bitmap-end-requires c κs = search needs
 generator-requires : tie.Need-generator-requires
 generator-requires c κs = omega (arith, bitmap-after (c .before .before .before .before .before .args .layout) classes)
 
-sub-search : tie.Need-sub-search
-sub-search c = let a = c .before .before .before .before .before .before .args in omega (arith, starts (a .layout) (a .class))
+sub-find : tie.Need-sub-find
+sub-find c = let a = c .before .before .before .before .before .before .args in omega (arith, starts (a .layout) (a .class))
 
-part-search-start : tie.Need-part-search-start
-part-search-start c = let a = c .before .before .before .before .before .before .before .args in omega (arith, starts (a .layout) (a .class))
+part-find-start : tie.Need-part-find-start
+part-find-start c = let a = c .before .before .before .before .before .before .before .args in omega (arith, starts (a .layout) (a .class))
 
-part-search-end : tie.Need-part-search-end
-part-search-end c = let a = c .before .before .before .before .before .before .before .args in omega (arith, ends (a .layout) (a .class))
+part-find-end : tie.Need-part-find-end
+part-find-end c = let a = c .before .before .before .before .before .before .before .args in omega (arith, ends (a .layout) (a .class))
 
-search-requires : tie.Need-search-requires
-search-requires c κs = search needs
+find-requires : tie.Need-find-requires
+find-requires c κs = search needs
 
 sub-set : tie.Need-sub-set
 sub-set c = let a = c .before .before .before .before .before .before .before .before .before .args in omega (arith, starts (a .layout) (a .class))
@@ -52,7 +52,7 @@ slot-start-requires c κs =
     let searched = c .before .before .before .before .before .before .before .before in
     let read = searched .before .before .before in
     let ended = read .before .before in
-    let within = taken-slot _ _ _ (ended .before .bitmap-start .ensures) (ended .bitmap-end .ensures) (ended .before .before .slots .ensures .0) (read .generator .ensures) (searched .search .ensures) (omega arith) in
+    let within = taken-slot _ _ _ (ended .before .bitmap-start .ensures) (ended .bitmap-end .ensures) (ended .before .before .slots .ensures .0) (read .generator .ensures) (searched .find .ensures) (omega arith) in
     (omega arith, omega arith, within)
 
 same-length : tie.Need-same-length
@@ -64,7 +64,7 @@ returns c =
     let read = searched .before .before .before in
     let ended = read .before .before in
     rw (c .before .before .before .store .ensures)
-    (taken-done _ _ _ (ended .before .bitmap-start .ensures) (ended .bitmap-end .ensures) (ended .before .before .slots .ensures .0) (read .generator .ensures) (searched .search .ensures)
+    (taken-done _ _ _ (ended .before .bitmap-start .ensures) (ended .bitmap-end .ensures) (ended .before .before .slots .ensures .0) (read .generator .ensures) (searched .find .ensures)
     (omega arith) (c .before .before .before .before .before .before .metadata2 .given .0) (c .before .before .before .before .before .before .before .set .ensures) (c .slot-start .ensures))
 
 pub take-spec : {M : Type 1} → statement M
@@ -75,10 +75,10 @@ take-spec =
     bitmap-start-requires
     bitmap-end-requires
     generator-requires
-    sub-search
-    part-search-start
-    part-search-end
-    search-requires
+    sub-find
+    part-find-start
+    part-find-end
+    find-requires
     sub-set
     part-set-start
     part-set-end

@@ -1,7 +1,7 @@
 -- `heap::copy::write` meets its contract, by the kind.
 use borrow.Author.Needs.{needs}
-use Rattle.heap.proofs.copy.write.Statement.{statement}
-use Rattle.heap.proofs.copy.write.Tie as tie
+use Rattle.fill.proofs.write.Statement.{statement}
+use Rattle.fill.proofs.write.Tie as tie
 
 enum-told : tie.Need-enum-told
 enum-told c = search needs

@@ -1,9 +1,9 @@
 -- `heap::copy::write_bytes` meets its contract: it copies the whole source, or its part that is as long as the target.
 use native.Mathlib.Omega.{arith}
 use borrow.Author.Needs.{needs}
-use Rattle.heap.proofs.Clip.{clipped, clipped-part}
-use Rattle.heap.proofs.copy.write_bytes.Statement.{statement}
-use Rattle.heap.proofs.copy.write_bytes.Tie as tie
+use Rattle.fill.proofs.Clip.{clipped, clipped-part}
+use Rattle.fill.proofs.write_bytes.Statement.{statement}
+use Rattle.fill.proofs.write_bytes.Tie as tie
 
 copy-requires : tie.Need-copy-requires
 copy-requires c κs = search needs

@@ -1,7 +1,7 @@
 use borrow.Author.Needs.{needs}
-use Rattle.heap.proofs.Clip.{padded-put}
-use Rattle.heap.proofs.copy.write_padded.Statement.{statement}
-use Rattle.heap.proofs.copy.write_padded.Tie as tie
+use Rattle.fill.proofs.Clip.{padded-put}
+use Rattle.fill.proofs.write_padded.Statement.{statement}
+use Rattle.fill.proofs.write_padded.Tie as tie
 
 wide-requires : tie.Need-wide-requires
 wide-requires c κs = search needs

@@ -1,8 +1,8 @@
 use borrow.Author.Needs.{needs}
 use mathlib.Core.Path.{refl, sym}
 use native.Mathlib.Nat.{div-zero, div-le-self}
-use Rattle.geometry.proofs.quotient.Statement.{statement}
-use Rattle.geometry.proofs.quotient.Tie as tie
+use Rattle.numbers.proofs.quotient.Statement.{statement}
+use Rattle.numbers.proofs.quotient.Tie as tie
 
 div-result : tie.Need-div-result
 div-result c = search needs

@@ -1,8 +1,8 @@
 use borrow.Author.Needs.{needs}
 use mathlib.Core.Path.{sym}
 use native.Mathlib.Nat.{mod-zero}
-use Rattle.geometry.proofs.remainder.Statement.{statement}
-use Rattle.geometry.proofs.remainder.Tie as tie
+use Rattle.numbers.proofs.remainder.Statement.{statement}
+use Rattle.numbers.proofs.remainder.Tie as tie
 
 rem-result : tie.Need-rem-result
 rem-result c = search needs

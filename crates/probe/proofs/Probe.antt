@@ -14,18 +14,18 @@ use Rattle.rules.specs.declared.Found.{Found}
 use Rattle.rules.specs.Allocate.{probe}
 
 module _ (b : List ℕ) (n last : ℕ) (g : Generator) where
-  module _ {g′ : Generator} {x : ℕ} (stepped : g′ ≡ next g) (number : x ≡ drawn g′) where
+  module _ {g′ : Generator} {i : ℕ} (stepped : g′ ≡ next g) (tested : i ≡ drawn g′ % n) where
     -- a draw that meets a clear slot takes it
-    pub probe-hit : {left : ℕ} → 0 < left → isSet b n (x % n) ≡ false → probe b n g last left ≡ record { slot = x % n; generator = g′ }
+    pub probe-hit : {left : ℕ} → 0 < left → isSet b n i ≡ false → probe b n g last left ≡ record { slot = i; generator = g′ }
     unfolding probe
     probe-hit {left = zero} h e = absurd (omega arith)
-    probe-hit {left = suc k} h e = rw (number, stepped, rw (number, stepped) at e, probe)
+    probe-hit {left = suc k} h e = rw (tested, stepped, rw (tested, stepped) at e, probe)
 
     -- one that meets a set slot leaves one draw fewer
-    pub probe-miss : {left : ℕ} → 0 < left → isSet b n (x % n) ≡ true → probe b n g last left ≡ probe b n g′ (x % n) (left - 1)
+    pub probe-miss : {left : ℕ} → 0 < left → isSet b n i ≡ true → probe b n g last left ≡ probe b n g′ i (left - 1)
     unfolding probe
     probe-miss {left = zero} h e = absurd (omega arith)
-    probe-miss {left = suc k} h e = rw (sub-one, number, stepped, rw (number, stepped) at e, probe)
+    probe-miss {left = suc k} h e = rw (sub-one, tested, stepped, rw (tested, stepped) at e, probe)
 
   -- after the last draw the next clear slot is taken
   pub probe-walk : {left r : ℕ} → left ≤ 0 → r ≡ nextClear b n last → probe b n g last left ≡ record { slot = r; generator = g }

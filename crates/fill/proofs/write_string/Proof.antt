@@ -1,7 +1,7 @@
 use borrow.Author.Needs.{needs}
-use Rattle.heap.proofs.Clip.{string-part, string-whole}
-use Rattle.heap.proofs.copy.write_string.Statement.{statement}
-use Rattle.heap.proofs.copy.write_string.Tie as tie
+use Rattle.fill.proofs.Clip.{string-part, string-whole}
+use Rattle.fill.proofs.write_string.Statement.{statement}
+use Rattle.fill.proofs.write_string.Tie as tie
 
 least-requires : tie.Need-least-requires
 least-requires c κs = search needs

@@ -1,12 +1,12 @@
--- `allocate::search` meets its contract. The loop's invariant: the draws that are left come to what all of them do.
+-- `probe::find` meets its contract. The loop's invariant: the draws that are left come to what all of them do.
 use mathlib.Core.Path.{_≡_, refl, sym, _∙_}
 use native.Mathlib.Omega.{arith}
 use borrow.Author.Needs.{needs}
 use borrow.Author.Tests.{not-true, not-false}
 use Rattle.rules.specs.Allocate.{probe}
-use Rattle.heap.proofs.Probe.{probe-hit, probe-miss, probe-walk}
-use Rattle.heap.proofs.allocate.search.Statement.{statement}
-use Rattle.heap.proofs.allocate.search.Tie as tie
+use Rattle.probe.proofs.Probe.{probe-hit, probe-miss, probe-walk}
+use Rattle.probe.proofs.find.Statement.{statement}
+use Rattle.probe.proofs.find.Tie as tie
 
 abbrev Inv-loop : tie.InvT-loop
 Inv-loop bitmap slots generator₀ last₀ left₀ generator last left = probe bitmap slots generator₀ last₀ left₀ ≡ probe bitmap slots generator last left
@@ -26,18 +26,19 @@ draw-requires c κs = search needs
 wide-requires : tie.Need-wide-requires Inv-loop μ-loop
 wide-requires c κs = search needs
 
-rem-last : tie.Need-rem-last Inv-loop μ-loop
-rem-last c = search needs
+remainder-requires : tie.Need-remainder-requires Inv-loop μ-loop
+remainder-requires c κs = search needs
 
 is-set-requires : tie.Need-is-set-requires Inv-loop μ-loop
 is-set-requires c κs = search needs
 
 returns : tie.Need-returns Inv-loop μ-loop
 returns c =
+    let drew = c .before .before .before in
+    let slot = rw (drew .wide .ensures .0, drew .before .draw .ensures) at (c .before .before .remainder .ensures) in
     sym
-    (c .before .before .before .before .before .before .loop .inv
-    ∙ probe-hit _ _ _ _ (c .before .before .before .before .advance .ensures) (c .before .before .wide .ensures .0 ∙ c .before .before .before .draw .ensures)
-    (omega arith) (sym (c .before .is-set .ensures) ∙ not-true _ (c .if1 .taken)))
+    (drew .before .before .before .before .loop .inv
+    ∙ probe-hit _ _ _ _ (drew .before .before .advance .ensures) slot (omega arith) (sym (c .before .is-set .ensures) ∙ not-true _ (c .if1 .taken)))
 
 sub-left : tie.Need-sub-left Inv-loop μ-loop
 sub-left c = omega arith
@@ -47,9 +48,10 @@ loop-less c = omega arith
 
 loop-again : tie.Need-loop-again Inv-loop μ-loop
 loop-again c =
-    c .before .before .before .before .before .before .loop .inv
-    ∙ probe-miss _ _ _ _ (c .before .before .before .before .advance .ensures) (c .before .before .wide .ensures .0 ∙ c .before .before .before .draw .ensures)
-    (omega arith) (sym (c .before .is-set .ensures) ∙ not-false _ (c .if1 .left))
+    let drew = c .before .before .before in
+    let slot = rw (drew .wide .ensures .0, drew .before .draw .ensures) at (c .before .before .remainder .ensures) in
+    drew .before .before .before .before .loop .inv
+    ∙ probe-miss _ _ _ _ (drew .before .before .advance .ensures) slot (omega arith) (sym (c .before .is-set .ensures) ∙ not-false _ (c .if1 .left))
 
 next-clear-requires : tie.Need-next-clear-requires Inv-loop μ-loop
 next-clear-requires c κs = search needs
@@ -57,8 +59,8 @@ next-clear-requires c κs = search needs
 returns-2 : tie.Need-returns-2 Inv-loop μ-loop
 returns-2 c = sym (c .before .before .loop .inv ∙ probe-walk _ _ _ _ (omega arith) (c .next-clear .ensures))
 
-pub search-spec : {M : Type 1} → statement M
-search-spec =
+pub find-spec : {M : Type 1} → statement M
+find-spec =
     tie.close
     (tie.spec
     Inv-loop
@@ -67,7 +69,7 @@ search-spec =
     advance-requires
     draw-requires
     wide-requires
-    rem-last
+    remainder-requires
     is-set-requires
     returns
     sub-left

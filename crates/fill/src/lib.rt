@@ -1,0 +1,71 @@
+// Filling bytes that were lent: what each kind of copy writes, as far as it fits, and zeros.
+use numbers::least;
+use numbers::wide;
+use rules::Kind;
+ghost use mathlib.Core.Path.{_≡_};
+ghost use Prim.Native.Nat.{min};
+ghost use lib.ListN.{length, replicate};
+ghost use Rattle.rules.specs.declared.Kind.the-variants.{String, Padded};
+ghost use Rattle.rules.specs.Object.{contentOf, clip};
+
+// Writes zeros throughout.
+pub fn clear(bytes: &mut [u8])
+    ensures { λ _. ⌜ now (bytes .exit) ≡ replicate (length (now (bytes .entry))) 0 ⌝ }
+{
+    let mut i = 0;
+    while i < bytes.len() {
+        bytes[i] = 0;
+        i += 1;
+    }
+}
+
+// Writes the source, as far as it fits.
+fn write_bytes(target: &mut [u8], source: &[u8]) -> usize
+    ensures { λ r. ⌜ r ≡ min (length (now (source .entry))) (length (now (target .entry))) ⌝ }
+    ensures { λ _. ⌜ now (target .exit) ≡ clip (now (source .entry)) (now (target .entry)) ⌝ }
+{
+    let room = target.len();
+    if source.len() <= room {
+        return bytes::copy(source, target);
+    }
+    bytes::copy(&source[0..room], target)
+}
+
+// Writes the source through its first zero byte, as far as it fits. Nothing past what fits is looked at.
+fn write_string(target: &mut [u8], source: &[u8]) -> usize
+    ensures { λ r. ⌜ r ≡ min (length (contentOf String (now (source .entry)))) (length (now (target .entry))) ⌝ }
+    ensures { λ _. ⌜ now (target .exit) ≡ clip (contentOf String (now (source .entry))) (now (target .entry)) ⌝ }
+{
+    let seen = least(source.len(), target.len());
+    let end = bytes::scan::find(source, 0, seen, 0);
+    if end < seen {
+        let past = end + 1;
+        return write_bytes(target, &source[0..past]);
+    }
+    write_bytes(target, source)
+}
+
+// Writes the source before its first zero byte and then zeros, `count` bytes in all, as far as they fit.
+fn write_padded(target: &mut [u8], source: &[u8], count: u32) -> usize
+    ensures { λ r. ⌜ r ≡ min (length (contentOf (Padded count) (now (source .entry)))) (length (now (target .entry))) ⌝ }
+    ensures { λ _. ⌜ now (target .exit) ≡ clip (contentOf (Padded count) (now (source .entry))) (now (target .entry)) ⌝ }
+{
+    let room = least(wide(count), target.len());
+    let seen = least(source.len(), room);
+    let text = bytes::scan::find(source, 0, seen, 0);
+    bytes::copy(&source[0..text], target);
+    clear(&mut target[text..room]);
+    room
+}
+
+// Writes what a copy of this kind writes, as far as it fits.
+pub fn write(target: &mut [u8], source: &[u8], kind: Kind) -> usize
+    ensures { λ r. ⌜ r ≡ min (length (contentOf kind (now (source .entry)))) (length (now (target .entry))) ⌝ }
+    ensures { λ _. ⌜ now (target .exit) ≡ clip (contentOf kind (now (source .entry))) (now (target .entry)) ⌝ }
+{
+    match kind {
+        Kind::Bytes => write_bytes(target, source),
+        Kind::String => write_string(target, source),
+        Kind::Padded(count) => write_padded(target, source, count),
+    }
+}

@@ -1,0 +1,33 @@
+// Choosing a slot: draws, and then the next clear slot.
+use mwc::Generator;
+use numbers::remainder;
+use numbers::wide;
+use rules::Found;
+ghost use mathlib.Core.Path.{_≡_};
+ghost use Rattle.rules.specs.Allocate.{draws, probe};
+
+const DRAWS: usize = 32;
+
+// The slot that the draws choose, or the next clear one above the last slot tested where all of them meet set slots.
+pub fn find(bitmap: &[u8], slots: usize, start: Generator) -> Found
+    ensures { λ r. ⌜ r ≡ probe (now (bitmap .entry)) slots start 0 draws ⌝ }
+{
+    let mut generator = start;
+    let mut last: usize = 0;
+    let mut left: usize = DRAWS;
+    while 0 < left {
+        generator = generator.advance();
+        last = remainder(wide(generator.draw()), slots);
+        if !bitmap::is_set(bitmap, slots, last) {
+            return Found {
+                slot: last,
+                generator,
+            };
+        }
+        left -= 1;
+    }
+    Found {
+        slot: bitmap::next_clear(bitmap, slots, last),
+        generator,
+    }
+}
