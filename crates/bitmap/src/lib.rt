@@ -1,11 +1,14 @@
 // One class's bitmap: the bytes that hold it and how many slots it has. Bits beyond the slots are neither tested, counted nor changed.
+use numbers::least;
 use numbers::wide;
 ghost use mathlib.Core.Path.{_≡_};
-ghost use Prim.Native.Nat.{_-_, _*_, _/_, _%_, _^_, _<_, _≤_};
+ghost use Prim.Native.Nat.{_+_, _-_, _*_, _/_, _%_, _^_, _<_, _≤_};
 ghost use lib.ListN.{length};
 ghost use Rattle.search.specs.First.{first};
-ghost use lib.Count.{onesIn};
+ghost use lib.Count.{ones, onesIn};
 ghost use Rattle.bitmap.specs.Bitmap.{isSet, isClear, setSlot, clearSlot, countSet, nextClear};
+
+const CHUNK: usize = 16;
 
 // A bit of a byte, counted from the lowest.
 fn bit_of(byte: u8, place: usize) -> u8
@@ -63,6 +66,26 @@ fn ones_below(byte: u8, bits: usize) -> usize
     wide(u8::count_ones(byte % (1 << bits)))
 }
 
+fn ones_of(byte: u8) -> u8
+    ensures { λ r. ⌜ (r ≡ ones byte) × (r ≤ 8) ⌝ }
+{
+    u8::count_ones(byte) as u8
+}
+
+// How many bits of the bytes from `from` up to, not including, `to` are set. A sum in a byte compiles to sixteen additions at once.
+fn count_chunk(bitmap: &[u8], from: usize, to: usize) -> u8
+    requires { ⌜ (from ≤ to) × (to ≤ length (now bitmap)) × (to ≤ from + 16) ⌝ }
+    ensures { λ r. ⌜ countSet (now (bitmap .entry)) (8 * from) + r ≡ countSet (now (bitmap .entry)) (8 * to) ⌝ }
+{
+    let mut total: u8 = 0;
+    let mut at = from;
+    while at < to {
+        total += ones_of(bitmap[at]);
+        at += 1;
+    }
+    total
+}
+
 // How many bits of the first bytes are set.
 fn count_bytes(bitmap: &[u8], bytes: usize) -> usize
     requires { ⌜ (bytes ≤ length (now bitmap)) × (8 * bytes < 2 ^ 64) ⌝ }
@@ -71,8 +94,9 @@ fn count_bytes(bitmap: &[u8], bytes: usize) -> usize
     let mut total: usize = 0;
     let mut at: usize = 0;
     while at < bytes {
-        total += wide(u8::count_ones(bitmap[at]));
-        at += 1;
+        let end = least(bytes, at + CHUNK);
+        total += count_chunk(bitmap, at, end) as usize;
+        at = end;
     }
     total
 }

@@ -4,7 +4,7 @@ use Prim.Native.Nat.{_≤_, _-_, _*_}
 use native.Mathlib.Omega.{arith}
 use borrow.Author.Needs.{needs}
 use Rattle.bitmap.specs.Bitmap.{countSet}
-use Rattle.bitmap.proofs.Counted.{count-byte, count-le}
+use Rattle.bitmap.proofs.Counted.{count-le}
 use Rattle.bitmap.proofs.count_bytes.Statement.{statement}
 use Rattle.bitmap.proofs.count_bytes.Tie as tie
 
@@ -18,23 +18,23 @@ loop-holds : tie.Need-loop-holds Inv-loop μ-loop
 unfolding countSet
 loop-holds c = (omega arith, refl)
 
-shared-slice-read-wide : tie.Need-shared-slice-read-wide Inv-loop μ-loop
-shared-slice-read-wide c = omega arith
+add-least : tie.Need-add-least Inv-loop μ-loop
+add-least c = omega arith
 
-wide-requires : tie.Need-wide-requires Inv-loop μ-loop
-wide-requires c κs = search needs
+least-requires : tie.Need-least-requires Inv-loop μ-loop
+least-requires c κs = search needs
+
+count-chunk-requires : tie.Need-count-chunk-requires Inv-loop μ-loop
+count-chunk-requires c κs = omega arith
+
+cast-total : tie.Need-cast-total Inv-loop μ-loop
+cast-total c = search needs
 
 loop-again : tie.Need-loop-again Inv-loop μ-loop
-loop-again c = (
-  omega arith,
-  rw (c .before .before .before .loop .inv .1, c .wide .ensures .0) (count-byte _ _ (c .before .shared-slice-known2 .given _ .fits)),
-)
+loop-again c = (omega arith, rw (c .before .before .before .loop .inv .1) (c .count-chunk .ensures))
 
 add-total : tie.Need-add-total Inv-loop μ-loop
 add-total c = omega (arith, count-le _ _ _ (loop-again c .1))
-
-add-at : tie.Need-add-at Inv-loop μ-loop
-add-at c = omega arith
 
 loop-less : tie.Need-loop-less Inv-loop μ-loop
 loop-less c = omega arith
@@ -50,10 +50,11 @@ count-bytes-spec =
     Inv-loop
     μ-loop
     loop-holds
-    shared-slice-read-wide
-    wide-requires
+    add-least
+    least-requires
+    count-chunk-requires
+    cast-total
     add-total
-    add-at
     loop-less
     loop-again
     returns)
