@@ -6,6 +6,7 @@ use lib.Dec.{leb, ltb, eqb}
 use Rattle.search.specs.First.{first}
 use Rattle.geometry.specs.declared.Layout.{Layout}
 use Rattle.geometry.specs.declared.Location.{Location}
+use Rattle.geometry.specs.declared.Part.{Part}
 
 -- size classes, and regions
 abbrev pub classes : ℕ
@@ -62,6 +63,10 @@ bitmapLength G c = (slots G c + 7) / 8
 unfoldable pub bitmapAt : Layout → ℕ → ℕ
 bitmapAt G zero = header
 bitmapAt G (suc c) = bitmapAt G c + bitmapLength G c
+
+-- the part of the metadata that holds a class's bitmap
+abbrev pub partOf : Layout → ℕ → Part
+partOf G c = record { slots = slots G c; start = bitmapAt G c; end = bitmapAt G (suc c) }
 
 abbrev pub metadataLength : Layout → ℕ
 metadataLength G = bitmapAt G classes

@@ -4,8 +4,8 @@ use numbers::quotient;
 use numbers::remainder;
 use numbers::wide;
 ghost use mathlib.Core.Path.{_≡_};
-ghost use Prim.Native.Nat.{suc, min, _/_, _%_, _^_, _<_, _≤_};
-ghost use Rattle.geometry.specs.Layout.{classes, layoutOf, slotSize, slots, classOf, locate, bitmapLength, bitmapAt, metadataLength};
+ghost use Prim.Native.Nat.{_+_, _*_, _^_, _<_, _≤_};
+ghost use Rattle.geometry.specs.Layout.{classes, layoutOf, slotSize, slots, classOf, locate, header, bitmapLength, bitmapAt, metadataLength, partOf};
 
 pub const CLASSES: usize = 12;
 
@@ -15,6 +15,13 @@ const HEADER: usize = 8;
 // How a heap is laid out. A region length of 0 stands for no heap: it has no slots.
 pub struct Layout {
     pub region: u32,
+}
+
+// The part of the metadata that holds a class's bitmap, and how many slots the bitmap has.
+pub struct Part {
+    pub slots: usize,
+    pub start: usize,
+    pub end: usize,
 }
 
 // The class and the slot in whose bytes an offset lies, and how far it lies into the slot.
@@ -97,8 +104,8 @@ impl Layout {
     }
 
     // Where a class's bitmap starts in the metadata.
-    pub fn bitmap_start(self, class: usize) -> usize
-        ensures { λ r. ⌜ r ≡ bitmapAt self class ⌝ }
+    fn bitmap_start(self, class: usize) -> usize
+        ensures { λ r. ⌜ (r ≡ bitmapAt self class) × (r ≤ header + classes * 536870912) ⌝ }
     {
         let last = least(class, CLASSES);
         let mut at = HEADER;
@@ -110,11 +117,16 @@ impl Layout {
         at
     }
 
-    // Where a class's bitmap ends: where the next one starts.
-    pub fn bitmap_end(self, class: usize) -> usize
-        ensures { λ r. ⌜ r ≡ bitmapAt self (suc class) ⌝ }
+    // A bitmap ends where the next one starts.
+    pub fn part(self, class: usize) -> Part
+        ensures { λ r. ⌜ r ≡ partOf self class ⌝ }
     {
-        self.bitmap_start(least(class, CLASSES) + 1)
+        let start = self.bitmap_start(class);
+        Part {
+            slots: self.slots(class),
+            start,
+            end: start + self.bitmap_length(class),
+        }
     }
 
     pub fn metadata_length(self) -> usize

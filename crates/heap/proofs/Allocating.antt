@@ -9,7 +9,8 @@ use lib.Dec.{eqb}
 use lib.ListN.{length, take, drop}
 use Rattle.mwc.specs.declared.Generator.{Generator}
 use Rattle.geometry.specs.declared.Layout.{Layout}
-use Rattle.geometry.specs.Layout.{classes, slots, classOf, slotStart, bitmapAt, metadataLength}
+use Rattle.geometry.specs.declared.Part.{Part}
+use Rattle.geometry.specs.Layout.{classes, slots, classOf, slotStart, metadataLength, partOf}
 use Rattle.geometry.proofs.Geometry.{class-le}
 use Rattle.bitmap.specs.Bitmap.{setSlot, countSet}
 use Rattle.answer.specs.declared.Refusal.the-variants.{UnsupportedSize, ClassTooSmall, ClassAtCapacity}
@@ -23,28 +24,23 @@ use Rattle.probe.proofs.Probe.{probe-le}
 
 -- ---- taking a slot
 
-module _ (G : Layout) (m : List ℕ) (c : ℕ) {start end n : ℕ} {g : Generator} {found : Found}
-    (from : start ≡ bitmapAt G c) (to : end ≡ bitmapAt G (suc c)) (has : n ≡ slots G c) (seeds : g ≡ generatorOf m)
-    (drew : found ≡ probe (take (end - start) (drop start m)) n g 0 draws) where
+module _ (G : Layout) (m : List ℕ) (c : ℕ) {p : Part} {g : Generator} {found : Found} (of : p ≡ partOf G c) (seeds : g ≡ generatorOf m)
+    (drew : found ≡ probe (take (p .end - p .start) (drop (p .start) m)) (p .slots) g 0 draws) where
   -- the part that is lent to the search is the bitmap
   chosen : found ≡ probe (bitmapOf G c m) (slots G c) (generatorOf m) 0 draws
-  chosen = drew ∙ rw (from, to, part-bitmap, has, seeds)
+  chosen = drew ∙ rw (part-bitmap G c of, of, seeds)
 
   -- it is one of the class's, or the number of them
   pub taken-slot : 0 < slots G c → found .slot ≤ slots G c
   taken-slot h = rw chosen (probe-le (bitmapOf G c m) (slots G c) h (generatorOf m) 0 draws)
 
-  module _ (fits : length m ≡ metadataLength G) {part : List ℕ} (same : length part ≡ length (take (end - start) (drop start m)))
-      (put : part ≡ setSlot (take (end - start) (drop start m)) n (found .slot)) where
-    -- the bitmap with its slot set is back in its place
-    back : take start m ++ (part ++ drop (end - start) (drop start m)) ≡ overwrite m (bitmapAt G c) (setSlot (bitmapOf G c m) (slots G c) (found .slot))
-    back = bitmap-back G c m (λ b k. setSlot b k (found .slot)) fits has from to put same
-
-    -- with the generator stored the slot is taken
+  module _ (fits : length m ≡ metadataLength G) {ys : List ℕ} (same : length ys ≡ length (take (p .end - p .start) (drop (p .start) m)))
+      (put : ys ≡ setSlot (take (p .end - p .start) (drop (p .start) m)) (p .slots) (found .slot)) where
+    -- with the bitmap back in its place and the generator stored the slot is taken
     pub taken-done : {v : ℕ} → v ≡ slotStart G c (found .slot)
         → (served v ≡ reply G (taken G m c))
-        × (overwrite (take start m ++ (part ++ drop (end - start) (drop start m))) 0 (fieldsOf (found .generator)) ≡ metadataAfter G m (taken G m c))
-    taken-done e = (rw (e, chosen), rw (back, chosen))
+        × (overwrite (take (p .start) m ++ (ys ++ drop (p .end - p .start) (drop (p .start) m))) 0 (fieldsOf (found .generator)) ≡ metadataAfter G m (taken G m c))
+    taken-done e = (rw (e, chosen), rw (bitmap-back G c of m (λ b k. setSlot b k (found .slot)) fits put same, chosen))
 
 -- ---- which size is served
 

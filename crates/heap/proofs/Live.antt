@@ -1,5 +1,5 @@
 -- Whether the slot at an offset is live, and the bytes from the offset to its end.
-use Prim.Native.Nat.{ℕ, suc, _+_, _-_, _<_, _≤_}
+use Prim.Native.Nat.{ℕ, _+_, _-_, _<_, _≤_}
 use mathlib.Core.Path.{_≡_, sym, _∙_}
 use mathlib.Core.Bool.{Bool, true, false}
 use mathlib.Core.List.{List}
@@ -7,7 +7,8 @@ use native.Mathlib.Omega.{arith}
 use lib.ListN.{take, drop}
 use Rattle.geometry.specs.declared.Layout.{Layout}
 use Rattle.geometry.specs.declared.Location.{Location}
-use Rattle.geometry.specs.Layout.{heapLength, slotSize, slots, locate, bitmapAt}
+use Rattle.geometry.specs.declared.Part.{Part}
+use Rattle.geometry.specs.Layout.{heapLength, slotSize, slots, locate, partOf}
 use Rattle.geometry.proofs.Geometry.{slot-size-le}
 use Rattle.geometry.proofs.Slots.{slot-ends}
 use Rattle.bitmap.specs.Bitmap.{isSet}
@@ -17,13 +18,11 @@ use Rattle.rules.specs.Object.{isLive, space}
 use Rattle.heap.proofs.Part.{part-bitmap}
 
 -- the code tests the part that is the class's bitmap
-pub tested-live : (G : Layout) (m : List ℕ) (offset : ℕ) {l : Location} {n a e : ℕ} {t : Bool} → l ≡ locate G offset
-    → n ≡ slots G (l .class)
-    → a ≡ bitmapAt G (l .class)
-    → e ≡ bitmapAt G (suc (l .class))
-    → t ≡ isSet (take (e - a) (drop a m)) n (l .slot)
+pub tested-live : (G : Layout) (m : List ℕ) (offset : ℕ) {l : Location} {p : Part} {t : Bool} → l ≡ locate G offset
+    → p ≡ partOf G (l .class)
+    → t ≡ isSet (take (p .end - p .start) (drop (p .start) m)) (p .slots) (l .slot)
     → isLive G m (locate G offset) ≡ t
-tested-live G m offset {l} at p q r tested = sym (tested ∙ rw (p, q, r, part-bitmap G (l .class) m, at))
+tested-live G m offset {l} at of tested = sym (tested ∙ rw (part-bitmap G (l .class) of, of, at))
 
 module _ (G : Layout) (m : List ℕ) (offset : ℕ) where
   -- a live slot is one of its class's

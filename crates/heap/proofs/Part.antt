@@ -6,7 +6,8 @@ use native.Mathlib.Nat.{le-suc, add-sub-cancel-left}
 use lib.ListN.{length, take, drop}
 use borrow.Rule.Slice.PartMut.{mid-len}
 use Rattle.geometry.specs.declared.Layout.{Layout}
-use Rattle.geometry.specs.Layout.{slots, bitmapAt, bitmapLength, metadataLength}
+use Rattle.geometry.specs.declared.Part.{Part}
+use Rattle.geometry.specs.Layout.{slots, bitmapAt, bitmapLength, metadataLength, partOf}
 use Rattle.geometry.proofs.Geometry.{bitmap-rising, bitmap-inside}
 use Rattle.rules.specs.Metadata.{bitmapOf, overwrite}
 
@@ -14,29 +15,27 @@ use Rattle.rules.specs.Metadata.{bitmapOf, overwrite}
 pub part-back : (xs ys : List ℕ) (a n : ℕ) → length ys ≡ n → take a xs ++ (ys ++ drop n (drop a xs)) ≡ overwrite xs a ys
 part-back xs ys a n e = rw (← e)
 
-module _ (G : Layout) (c : ℕ) where
-  -- a bitmap starts before its end, which is within the metadata
-  pub starts : bitmapAt G c ≤ bitmapAt G (suc c)
-  starts = bitmap-rising G c (suc c) (le-suc c)
+module _ (G : Layout) (c : ℕ) {p : Part} (of : p ≡ partOf G c) where
+  -- it starts before its end, which is within the metadata
+  pub rises : p .start ≤ p .end
+  rises = rw of (bitmap-rising G c (suc c) (le-suc c))
 
-  pub ends : bitmapAt G (suc c) ≤ metadataLength G
-  ends = bitmap-inside G (suc c)
+  pub within : {n : ℕ} → n ≡ metadataLength G → p .end ≤ n
+  within e = rw (of, e) (bitmap-inside G (suc c))
 
-  -- from its start to its end is its length
-  size : bitmapAt G (suc c) - bitmapAt G c ≡ bitmapLength G c
+  -- from its start to its end is the bitmap's length
+  size : p .end - p .start ≡ bitmapLength G c
   unfolding bitmapAt
-  size = add-sub-cancel-left (bitmapAt G c) (bitmapLength G c)
+  size = rw of (add-sub-cancel-left (bitmapAt G c) (bitmapLength G c))
 
   -- what is lent is the bitmap
-  pub part-bitmap : (m : List ℕ) → take (bitmapAt G (suc c) - bitmapAt G c) (drop (bitmapAt G c) m) ≡ bitmapOf G c m
-  part-bitmap m = rw size
+  pub part-bitmap : (m : List ℕ) → take (p .end - p .start) (drop (p .start) m) ≡ bitmapOf G c m
+  part-bitmap m = rw (size, of)
 
   -- a bitmap that comes back changed, and as long as it was, has been overwritten
-  pub bitmap-back : (m : List ℕ) (change : List ℕ → ℕ → List ℕ) {a e n : ℕ} {ys : List ℕ} → length m ≡ metadataLength G → n ≡ slots G c
-      → a ≡ bitmapAt G c
-      → e ≡ bitmapAt G (suc c)
-      → ys ≡ change (take (e - a) (drop a m)) n
-      → length ys ≡ length (take (e - a) (drop a m))
-      → take a m ++ (ys ++ drop (e - a) (drop a m)) ≡ overwrite m (bitmapAt G c) (change (bitmapOf G c m) (slots G c))
-  bitmap-back m change {a} {e} {n} {ys} all count start end changed kept =
-      part-back m ys a (e - a) (kept ∙ mid-len a e m (rw (end, all) ends)) ∙ rw (changed, count, start, end, part-bitmap m)
+  pub bitmap-back : (m : List ℕ) (change : List ℕ → ℕ → List ℕ) {ys : List ℕ} → length m ≡ metadataLength G
+      → ys ≡ change (take (p .end - p .start) (drop (p .start) m)) (p .slots)
+      → length ys ≡ length (take (p .end - p .start) (drop (p .start) m))
+      → take (p .start) m ++ (ys ++ drop (p .end - p .start) (drop (p .start) m)) ≡ overwrite m (bitmapAt G c) (change (bitmapOf G c m) (slots G c))
+  bitmap-back m change {ys} all changed kept =
+      part-back m ys (p .start) (p .end - p .start) (kept ∙ mid-len (p .start) (p .end) m (within all)) ∙ rw (changed, part-bitmap m, of)

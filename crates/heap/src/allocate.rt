@@ -4,11 +4,12 @@ use answer::Answer;
 use answer::Refusal;
 use geometry::CLASSES;
 use geometry::Layout;
+use geometry::Part;
 use numbers::wide;
 ghost use mathlib.Core.Path.{_≡_};
 ghost use Prim.Native.Nat.{_≤_, _<_};
 ghost use lib.ListN.{length};
-ghost use Rattle.geometry.specs.Layout.{classes, slots, slotStart, metadataLength};
+ghost use Rattle.geometry.specs.Layout.{classes, slots, slotStart, metadataLength, partOf};
 ghost use Rattle.answer.specs.Reply.{replyOf};
 ghost use Rattle.rules.specs.Outcome.{reply, metadataAfter};
 ghost use Rattle.rules.specs.Allocate.{taken, allocate};
@@ -22,14 +23,14 @@ fn slot_start(layout: Layout, class: usize, slot: usize) -> u32
 }
 
 // Takes a slot of a class: draws it, sets its bit and stores the generator.
-fn take(metadata: &mut [u8], layout: Layout, class: usize) -> Answer
-    requires { ⌜ (layout .region ≤ 1048576) × (length (now metadata) ≡ metadataLength layout) × (class < classes) × (0 < slots layout class) ⌝ }
+fn take(metadata: &mut [u8], layout: Layout, class: usize, part: Part) -> Answer
+    requires { ⌜ (layout .region ≤ 1048576) × (length (now metadata) ≡ metadataLength layout) × (class < classes) × (0 < slots layout class) × (part ≡ partOf layout class) ⌝ }
     ensures { λ r. ⌜ replyOf r ≡ reply layout (taken layout (now (metadata .entry)) class) ⌝ }
     ensures { λ _. ⌜ now (metadata .exit) ≡ metadataAfter layout (now (metadata .entry)) (taken layout (now (metadata .entry)) class) ⌝ }
 {
-    let slots = layout.slots(class);
-    let start = layout.bitmap_start(class);
-    let end = layout.bitmap_end(class);
+    let slots = part.slots;
+    let start = part.start;
+    let end = part.end;
     let seeds = fields::generator(metadata);
     let found = probe::find(&metadata[start..end], slots, seeds);
     let slot = found.slot;
@@ -50,14 +51,15 @@ pub fn allocate(metadata: &mut [u8], layout: Layout, size: u32) -> Answer
     if CLASSES <= class {
         return Answer::Refused(Refusal::UnsupportedSize);
     }
-    let slots = layout.slots(class);
+    let part = layout.part(class);
+    let slots = part.slots;
     if slots < 2 {
         return Answer::Refused(Refusal::ClassTooSmall);
     }
-    let start = layout.bitmap_start(class);
-    let end = layout.bitmap_end(class);
+    let start = part.start;
+    let end = part.end;
     if slots / 2 <= bitmap::count(&metadata[start..end], slots) {
         return Answer::Refused(Refusal::ClassAtCapacity);
     }
-    take(metadata, layout, class)
+    take(metadata, layout, class, part)
 }

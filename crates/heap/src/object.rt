@@ -23,15 +23,16 @@ pub fn free(metadata: &mut [u8], layout: Layout, offset: u32) -> Answer
     let at = layout.locate(offset);
     let class = at.class;
     let slot = at.slot;
-    let slots = layout.slots(class);
     if at.into != 0 {
         return Answer::Refused(Refusal::NotASlotStart);
     }
+    let part = layout.part(class);
+    let slots = part.slots;
     if slots <= slot {
         return Answer::Refused(Refusal::NotASlotStart);
     }
-    let start = layout.bitmap_start(class);
-    let end = layout.bitmap_end(class);
+    let start = part.start;
+    let end = part.end;
     if !bitmap::is_set(&metadata[start..end], slots, slot) {
         return Answer::Refused(Refusal::NotAllocated);
     }
@@ -48,9 +49,10 @@ pub fn space(metadata: &[u8], layout: Layout, offset: u32) -> usize
     let class = at.class;
     let slot = at.slot;
     let into = at.into;
-    let slots = layout.slots(class);
-    let start = layout.bitmap_start(class);
-    let end = layout.bitmap_end(class);
+    let part = layout.part(class);
+    let slots = part.slots;
+    let start = part.start;
+    let end = part.end;
     if bitmap::is_set(&metadata[start..end], slots, slot) {
         return layout.slot_size(class) - into;
     }

@@ -36,7 +36,7 @@ loop-again c =
     (omega arith, bitmap-next _ _ (c .before .before .loop .inv .1) (c .bitmap-length .ensures .0), omega arith)
 
 returns : tie.Need-returns Inv-loop μ-loop
-returns c = bitmap-same _ _ _ (c .before .loop .inv .1) (omega arith)
+returns c = (bitmap-same _ _ _ (c .before .loop .inv .1) (omega arith), omega arith)
 
 pub bitmap-start-spec : {M : Type 1} → statement M
 bitmap-start-spec =

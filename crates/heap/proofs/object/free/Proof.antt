@@ -12,7 +12,7 @@ use Rattle.bitmap.specs.Bitmap.{clearSlot}
 use Rattle.answer.specs.declared.Refusal.the-variants.{NotAllocated}
 use Rattle.rules.specs.Outcome.{refused, freed}
 use Rattle.rules.specs.Object.{free}
-use Rattle.heap.proofs.Part.{starts, ends, bitmap-back}
+use Rattle.heap.proofs.Part.{rises, within, bitmap-back}
 use Rattle.heap.proofs.Live.{tested-live}
 use Rattle.heap.proofs.Freeing.{no-start, at-start}
 use Rattle.heap.proofs.object.free.Statement.{statement}
@@ -40,50 +40,44 @@ inside c = omega arith
 locate-requires : tie.Need-locate-requires
 locate-requires c κs = search needs
 
-slots-requires : tie.Need-slots-requires
-slots-requires c κs = search needs
-
 returns-2 : tie.Need-returns-2
 returns-2 c =
-    let s = c .before .before in
-    rw (no-start _ _ _ (inside (s .before .before)) (s .before .locate .ensures) (rw (ne-eqb _ _ (c .if2 .taken)))) (refl, refl)
+    let l = c .before .before in
+    rw (no-start _ _ _ (inside (l .before)) (l .locate .ensures) (rw (ne-eqb _ _ (c .if2 .taken)))) (refl, refl)
+
+part-requires : tie.Need-part-requires
+part-requires c κs = search needs
 
 returns-3 : tie.Need-returns-3
 returns-3 c =
-    let s = c .before .before .before in
-    rw (no-start _ _ _ (inside (s .before .before)) (s .before .locate .ensures)
-    (rw (eq-eqb _ _ (c .before .if2 .left), le-ltb _ _ (rw (s .slots .ensures .0) at (c .if3 .taken))))) (refl, refl)
-
-bitmap-start-requires : tie.Need-bitmap-start-requires
-bitmap-start-requires c κs = search needs
-
-bitmap-end-requires : tie.Need-bitmap-end-requires
-bitmap-end-requires c κs = search needs
+    let l = c .before .before .before .before in
+    rw (no-start _ _ _ (inside (l .before)) (l .locate .ensures)
+    (rw (eq-eqb _ _ (c .before .before .if2 .left), le-ltb _ _ (rw (c .before .part .ensures) at (c .if3 .taken))))) (refl, refl)
 
 sub-is-set : tie.Need-sub-is-set
-sub-is-set c = rw (c .before .bitmap-start .ensures, c .bitmap-end .ensures) (starts _ _)
+sub-is-set c = rises _ _ (c .before .part .ensures)
 
 part-is-set-start : tie.Need-part-is-set-start
 part-is-set-start c = sub-is-set (c .before)
 
 part-is-set-end : tie.Need-part-is-set-end
-part-is-set-end c = rw (c .before .bitmap-end .ensures, c .before .before .before .before .before .before .before .before .before .before .before .before .pre .1) (ends _ _)
+part-is-set-end c = within _ _ (c .before .before .part .ensures) (c .before .before .before .before .before .before .before .before .before .before .pre .1)
 
 is-set-requires : tie.Need-is-set-requires
 is-set-requires c κs = search needs
 
 -- a slot starts at the offset, so freeing depends on whether it is live
 freeing : (c : tie.After-is-set)
-    → let s = c .before .before .before .before .before .before .before .before in
-    let a = s .before .before .before .before .before .before .args in
-    let l = s .before .locate .result in
-    free (a .layout) (a .metadata .now) (a .offset) ≡ cond (not (c .is-set .result)) (refused NotAllocated) (freed (l .class) (l .slot))
+    → let l = c .before .before .before .before .before .before .before in
+    let a = l .before .before .before .before .before .args in
+    free (a .layout) (a .metadata .now) (a .offset)
+    ≡ cond (not (c .is-set .result)) (refused NotAllocated) (freed (l .locate .result .class) (l .locate .result .slot))
 freeing c =
-    let d = c .before .before .before .before .before in
-    let s = d .before .before .before in
-    at-start _ _ _ (inside (s .before .before)) (s .before .locate .ensures)
-    (rw (eq-eqb _ _ (d .before .if2 .left), lt-ltb _ _ (rw (s .slots .ensures .0) at (d .if3 .left))))
-    (tested-live _ _ _ (s .before .locate .ensures) (s .slots .ensures .0) (c .before .before .before .before .bitmap-start .ensures) (c .before .before .before .bitmap-end .ensures) (c .is-set .ensures))
+    let part = c .before .before .before .before in
+    let l = c .before .before .before .before .before .before .before in
+    at-start _ _ _ (inside (l .before)) (l .locate .ensures)
+    (rw (eq-eqb _ _ (part .before .if2 .left), lt-ltb _ _ (rw (part .part .ensures) at (c .before .before .before .if3 .left))))
+    (tested-live _ _ _ (l .locate .ensures) (part .part .ensures) (c .is-set .ensures))
 
 same-length : tie.Need-same-length
 same-length c = search needs
@@ -106,8 +100,8 @@ clear-requires c κs = search needs
 slot-size-requires : tie.Need-slot-size-requires
 slot-size-requires c κs = search needs
 
-cast-t26 : tie.Need-cast-t26
-cast-t26 c = rw (c .slot-size .ensures) (fits-below tt (slot-size-le _ _))
+cast-t27 : tie.Need-cast-t27
+cast-t27 c = rw (c .slot-size .ensures) (fits-below tt (slot-size-le _ _))
 
 same-length-2 : tie.Need-same-length-2
 same-length-2 c = search needs
@@ -115,12 +109,10 @@ same-length-2 c = search needs
 returns-5 : tie.Need-returns-5
 returns-5 c =
     let cleared = c .before .before .before in
-    let e = cleared .before .before .before .before .before .before in
-    let s = e .before .before .before .before .before in
+    let l = c .before .before .before .before .before .before .before .before .before .before .before .before .before in
     rw (freeing (c .before .before .before .before .before .before), c .before .before .before .before .before .if4 .left) (
       rw (c .slot-size .ensures),
-      bitmap-back _ _ _ (λ b n. clearSlot b n (s .before .locate .result .slot)) (s .before .before .before .before .before .before .pre .1) (s .slots .ensures .0)
-          (e .before .bitmap-start .ensures) (e .bitmap-end .ensures) (cleared .clear .ensures) (cleared .clear .kept .0),
+      bitmap-back _ _ (c .before .before .before .before .before .before .before .before .before .before .part .ensures) _ (λ b n. clearSlot b n (l .locate .result .slot)) (l .before .before .before .before .before .pre .1) (cleared .clear .ensures) (cleared .clear .kept .0),
     )
 
 pub free-spec : {M : Type 1} → statement M
@@ -132,11 +124,9 @@ free-spec =
     wide-requires-2
     returns
     locate-requires
-    slots-requires
     returns-2
+    part-requires
     returns-3
-    bitmap-start-requires
-    bitmap-end-requires
     sub-is-set
     part-is-set-start
     part-is-set-end
@@ -148,6 +138,6 @@ free-spec =
     part-clear-end
     clear-requires
     slot-size-requires
-    cast-t26
+    cast-t27
     same-length-2
     returns-5)

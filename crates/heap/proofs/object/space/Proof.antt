@@ -7,53 +7,46 @@ use Rattle.geometry.specs.Layout.{locate}
 use Rattle.geometry.proofs.Slots.{into-lt}
 use Rattle.rules.specs.Object.{isLive}
 use Rattle.heap.proofs.Live.{tested-live, live-lt, space-live, space-none}
-use Rattle.heap.proofs.Part.{starts, ends}
+use Rattle.heap.proofs.Part.{rises, within}
 use Rattle.heap.proofs.object.space.Statement.{statement}
 use Rattle.heap.proofs.object.space.Tie as tie
 
 locate-requires : tie.Need-locate-requires
 locate-requires c κs = search needs
 
-slots-requires : tie.Need-slots-requires
-slots-requires c κs = search needs
-
-bitmap-start-requires : tie.Need-bitmap-start-requires
-bitmap-start-requires c κs = search needs
-
-bitmap-end-requires : tie.Need-bitmap-end-requires
-bitmap-end-requires c κs = search needs
+part-requires : tie.Need-part-requires
+part-requires c κs = search needs
 
 sub-is-set : tie.Need-sub-is-set
-sub-is-set c = rw (c .before .bitmap-start .ensures, c .bitmap-end .ensures) (starts _ _)
+sub-is-set c = rises _ _ (c .part .ensures)
 
 part-is-set-start : tie.Need-part-is-set-start
 part-is-set-start c = sub-is-set c
 
 part-is-set-end : tie.Need-part-is-set-end
-part-is-set-end c = rw (c .bitmap-end .ensures, c .before .before .before .before .before .pre .1) (ends _ _)
+part-is-set-end c = within _ _ (c .part .ensures) (c .before .before .before .pre .1)
 
 is-set-requires : tie.Need-is-set-requires
 is-set-requires c κs = search needs
 
 -- the test says whether the slot is live
 live : (c : tie.After-is-set)
-    → let a = c .before .before .before .before .before .before .before .args in
+    → let a = c .before .before .before .before .before .args in
     isLive (a .layout) (a .metadata .now) (locate (a .layout) (a .offset)) ≡ c .is-set .result
-live c =
-    tested-live _ _ _ (c .before .before .before .before .before .locate .ensures) (c .before .before .before .before .slots .ensures .0) (c .before .before .before .bitmap-start .ensures) (c .before .before .bitmap-end .ensures) (c .is-set .ensures)
+live c = tested-live _ _ _ (c .before .before .before .locate .ensures) (c .before .before .part .ensures) (c .is-set .ensures)
 
 slot-size-requires : tie.Need-slot-size-requires
 slot-size-requires c κs = search needs
 
 sub-result : tie.Need-sub-result
 sub-result c =
-    rw (c .slot-size .ensures, c .before .before .before .before .before .before .before .locate .ensures)
+    rw (c .slot-size .ensures, c .before .before .before .before .before .locate .ensures)
     (le-of-lt (into-lt _ _ (live-lt _ _ _ (live (c .before .before) ∙ c .before .if1 .taken))))
 
 returns : tie.Need-returns
 returns c =
     space-live _ _ _ (omega arith) (live (c .before .before) ∙ c .before .if1 .taken)
-    (rw (c .slot-size .ensures, c .before .before .before .before .before .before .before .locate .ensures))
+    (rw (c .slot-size .ensures, c .before .before .before .before .before .locate .ensures))
 
 returns-2 : tie.Need-returns-2
 returns-2 c = space-none _ _ _ (omega arith) (live (c .before) ∙ c .if1 .left)
@@ -63,9 +56,7 @@ space-spec =
     tie.close
     (tie.spec
     locate-requires
-    slots-requires
-    bitmap-start-requires
-    bitmap-end-requires
+    part-requires
     sub-is-set
     part-is-set-start
     part-is-set-end
