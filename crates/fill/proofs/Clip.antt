@@ -12,6 +12,7 @@ use lib.ListN.{length, take, drop, replicate, length-append, length-take, length
 use lib.Seq.{take-all, take-length, drop-length, length-take-le, take-take, take-at, drop-at, drop-drop, take-append-le, take-append-add, drop-append-le}
 use Rattle.bytes.specs.Bytes.{indexOf, indexAfter, slice}
 use Rattle.rules.specs.declared.Kind.the-variants.{String, Padded}
+use Rattle.rules.specs.Metadata.{overwrite}
 use Rattle.rules.specs.Object.{contentOf, clip}
 
 -- ---- filling a target from its front
@@ -25,20 +26,35 @@ module _ (s t : List ℕ) where
       go (yes h) = let all : i ≡ length s = omega arith in rw (all, take-length s, take-all (length t) s h)
       go (no h) = let all : i ≡ length t = omega arith in rw (all, drop-length t, drop-of-length-le t {i = length s} (omega arith))
 
-  -- what a writer that wrote so many bytes has done
-  pub clipped : {i r : ℕ} {after : List ℕ} → i ≡ min (length s) (length t) → r ≡ i → after ≡ take i s ++ drop i t
-      → (r ≡ min (length s) (length t)) × (after ≡ clip s t)
-  clipped all p q = (p ∙ all, q ∙ filled all)
+  -- what a writer has done that wrote a whole content
+  abbrev Wrote : List ℕ → ℕ → List ℕ → Type 0
+  Wrote x r after = (r ≡ length x) × (after ≡ overwrite t 0 x)
 
-  -- the part of a longer content that is as long as the target, and a writer that wrote it
-  abbrev front : List ℕ
-  front = take (length t - 0) s
+  -- a content that fits, and the part of a longer one that is as long as the target
+  abbrev Clipped : ℕ → List ℕ → Type 0
+  Clipped r after = (r ≡ min (length s) (length t)) × (after ≡ clip s t)
 
-  pub clipped-part : {r : ℕ} {after : List ℕ} → length t < length s → r ≡ length front → after ≡ take (length front) front ++ drop (length front) t
-      → (r ≡ min (length s) (length t)) × (after ≡ clip s t)
-  clipped-part h p q =
-      let size : length front ≡ length t = rw sub-zero (length-take-le (length t) s (omega arith)) in
-      clipped {i = length t} (omega arith) (p ∙ size) (q ∙ rw (size, sub-zero, take-take (length t) (length t) s (omega arith)))
+  pub clipped : {r : ℕ} {after : List ℕ} → length s ≤ length t → Wrote s r after → Clipped r after
+  clipped h (p, q) = (omega arith, q ∙ rw (take-all (length t) s h))
+
+  pub clipped-part : {r : ℕ} {after : List ℕ} → length t < length s → Wrote (take (length t - 0) s) r after → Clipped r after
+  clipped-part h (p, q) =
+      let size : length (take (length t) s) ≡ length t = length-take-le (length t) s (omega arith) in (
+        p ∙ rw (sub-zero, size) (omega arith),
+        q ∙ rw (sub-zero, size, drop-length t, drop-of-length-le t {i = length s} (omega arith)),
+      )
+
+  -- a copy of the whole content, at once or by way of a block
+  pub moved : {r : ℕ} {after : List ℕ} → r ≡ length s → after ≡ take (length s) s ++ drop (length s) t → Wrote s r after
+  moved p q = (p, q ∙ rw (take-length s))
+
+  pub moved-through : (z : List ℕ) {block after : List ℕ} {r : ℕ} → block ≡ take (length s) s ++ drop (length s) z
+      → r ≡ length (take (length s - 0) block)
+      → after ≡ take (length (take (length s - 0) block)) (take (length s - 0) block) ++ drop (length (take (length s - 0) block)) t
+      → Wrote s r after
+  moved-through z {block} put p q =
+      let front : take (length s - 0) block ≡ s = rw (put, sub-zero, take-length s) (take-at s (drop (length s) z) (length s) refl) in
+      (p ∙ rw front, q ∙ rw (front, take-length s))
 
 -- the first k elements of a list, lent and filled: the list has the first bytes of the content in place of its own
 pub filled-back : (s x : List ℕ) {k n : ℕ} → k ≤ length x → n ≡ min (length s) k
@@ -123,14 +139,14 @@ module _ (s t : List ℕ) (count : ℕ) where
   -- the text copied and the rest cleared
   pub padded-put : {room seen text : ℕ} {mid zeros : List ℕ} → room ≡ min count (length t) → seen ≡ min (length s) room
       → text ≡ 0 + indexOf 0 (slice 0 seen s)
-      → mid ≡ take (length (take (text - 0) s)) (take (text - 0) s) ++ drop (length (take (text - 0) s)) t
+      → mid ≡ overwrite t 0 (take (text - 0) s)
       → zeros ≡ replicate (length (take (room - text) (drop text mid))) 0
       → (room ≡ min (length (contentOf (Padded count) s)) (length t))
       × (take text mid ++ (zeros ++ drop (room - text) (drop text mid)) ≡ clip (contentOf (Padded count) s) t)
   padded-put {room} {seen} {text} {mid} {zeros} roomy view at copied cleared =
       let cut : text ≡ min room (indexOf 0 s) = omega (arith, found s seen at, index-le 0 s) in
       let size : length (take text s) ≡ text = length-take-le text s (omega (arith, index-le 0 s)) in
-      let middle : mid ≡ take text s ++ drop text t = copied ∙ rw (sub-zero, size, take-take text text s (omega arith)) in
+      let middle : mid ≡ take text s ++ drop text t = copied ∙ rw (sub-zero, size) in
       let before : take text mid ≡ take text s = rw middle (take-at (take text s) (drop text t) text size) in
       let after : drop text mid ≡ drop text t = rw middle (drop-at (take text s) (drop text t) text size) in
       let left : length (take (room - text) (drop text t)) ≡ room - text = rw (length-take, length-drop) (omega arith) in

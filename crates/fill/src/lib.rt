@@ -3,10 +3,14 @@ use numbers::least;
 use numbers::wide;
 use rules::Kind;
 ghost use mathlib.Core.Path.{_≡_};
-ghost use Prim.Native.Nat.{min};
+ghost use Prim.Native.Nat.{min, _≤_};
 ghost use lib.ListN.{length, replicate};
 ghost use Rattle.rules.specs.declared.Kind.the-variants.{String, Padded};
+ghost use Rattle.rules.specs.Metadata.{overwrite};
 ghost use Rattle.rules.specs.Object.{contentOf, clip};
+
+// The longest object.
+const LONGEST: usize = 16384;
 
 // Writes zeros throughout.
 pub fn clear(bytes: &mut [u8])
@@ -19,6 +23,21 @@ pub fn clear(bytes: &mut [u8])
     }
 }
 
+// Copies the whole source to the front of the target. By way of an array of its own: the compiler then knows that nothing overlaps and makes one block move.
+fn block_move(source: &[u8], target: &mut [u8]) -> usize
+    requires { ⌜ length (now source) ≤ length (now target) ⌝ }
+    ensures { λ r. ⌜ r ≡ length (now (source .entry)) ⌝ }
+    ensures { λ _. ⌜ now (target .exit) ≡ overwrite (now (target .entry)) 0 (now (source .entry)) ⌝ }
+{
+    let count = source.len();
+    if LONGEST < count {
+        return bytes::copy(source, target);
+    }
+    let mut block = [0u8; 16384];
+    bytes::copy(source, &mut block);
+    bytes::copy(&block[0..count], target)
+}
+
 // Writes the source, as far as it fits.
 fn write_bytes(target: &mut [u8], source: &[u8]) -> usize
     ensures { λ r. ⌜ r ≡ min (length (now (source .entry))) (length (now (target .entry))) ⌝ }
@@ -26,9 +45,9 @@ fn write_bytes(target: &mut [u8], source: &[u8]) -> usize
 {
     let room = target.len();
     if source.len() <= room {
-        return bytes::copy(source, target);
+        return block_move(source, target);
     }
-    bytes::copy(&source[0..room], target)
+    block_move(&source[0..room], target)
 }
 
 // Writes the source through its first zero byte, as far as it fits. Nothing past what fits is looked at.
@@ -53,7 +72,7 @@ fn write_padded(target: &mut [u8], source: &[u8], count: u32) -> usize
     let room = least(wide(count), target.len());
     let seen = least(source.len(), room);
     let text = bytes::scan::find(source, 0, seen, 0);
-    bytes::copy(&source[0..text], target);
+    block_move(&source[0..text], target);
     clear(&mut target[text..room]);
     room
 }

@@ -1,4 +1,4 @@
--- `heap::copy::write` meets its contract, by the kind.
+-- `fill::write` meets its contract, by the kind.
 use borrow.Author.Needs.{needs}
 use Rattle.fill.proofs.write.Statement.{statement}
 use Rattle.fill.proofs.write.Tie as tie

@@ -15,17 +15,17 @@ least-requires-2 c κs = search needs
 find-requires : tie.Need-find-requires
 find-requires c κs = search needs
 
-sub-copy : tie.Need-sub-copy
-sub-copy c = search needs
+sub-block-move : tie.Need-sub-block-move
+sub-block-move c = search needs
 
-part-copy-start : tie.Need-part-copy-start
-part-copy-start c = search needs
+part-block-move-start : tie.Need-part-block-move-start
+part-block-move-start c = search needs
 
-part-copy-end : tie.Need-part-copy-end
-part-copy-end c = search needs
+part-block-move-end : tie.Need-part-block-move-end
+part-block-move-end c = search needs
 
-copy-requires : tie.Need-copy-requires
-copy-requires c κs = search needs
+block-move-requires : tie.Need-block-move-requires
+block-move-requires c κs = search needs
 
 sub-clear : tie.Need-sub-clear
 sub-clear c = search needs
@@ -45,7 +45,7 @@ same-length c = search needs
 returns : tie.Need-returns
 returns c =
     let l = c .before .before .before .before .before .before .before .before .before .before .before .least .ensures in
-    padded-put _ _ _ (rw (c .before .before .before .before .before .before .before .before .before .before .before .before .wide .ensures .0) at l) (c .before .before .before .before .before .before .before .before .before .before .least2 .ensures) (c .before .before .before .before .before .before .before .before .before .find .ensures .0) (c .before .before .before .before .before .before .copy .ensures .1) (c .before .before .clear .ensures)
+    padded-put _ _ _ (rw (c .before .before .before .before .before .before .before .before .before .before .before .before .wide .ensures .0) at l) (c .before .before .before .before .before .before .before .before .before .before .least2 .ensures) (c .before .before .before .before .before .before .before .before .before .find .ensures .0) (c .before .before .before .before .before .before .block-move .ensures .1) (c .before .before .clear .ensures)
 
 pub write-padded-spec : {M : Type 1} → statement M
 write-padded-spec =
@@ -55,10 +55,10 @@ write-padded-spec =
     least-requires
     least-requires-2
     find-requires
-    sub-copy
-    part-copy-start
-    part-copy-end
-    copy-requires
+    sub-block-move
+    part-block-move-start
+    part-block-move-end
+    block-move-requires
     sub-clear
     part-clear-start
     part-clear-end
