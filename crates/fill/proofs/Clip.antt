@@ -11,7 +11,7 @@ use lib.Dec.{eqb}
 use lib.ListN.{length, take, drop, replicate, length-append, length-take, length-drop, length-replicate, take-append-drop, drop-of-length-le}
 use lib.Seq.{take-all, take-length, drop-length, length-take-le, take-take, take-at, drop-at, drop-drop, take-append-le, take-append-add, drop-append-le}
 use Rattle.bytes.specs.Bytes.{indexOf, indexAfter, slice}
-use Rattle.rules.specs.declared.Kind.the-variants.{String, Padded}
+use Rattle.request.specs.declared.Kind.the-variants.{String, Padded}
 use Rattle.rules.specs.Metadata.{overwrite}
 use Rattle.rules.specs.Object.{contentOf, clip}
 

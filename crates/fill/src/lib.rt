@@ -1,11 +1,11 @@
 // Filling bytes that were lent: what each kind of copy writes, as far as it fits, and zeros.
 use numbers::least;
 use numbers::wide;
-use rules::Kind;
+use request::Kind;
 ghost use mathlib.Core.Path.{_≡_};
 ghost use Prim.Native.Nat.{min, _≤_};
 ghost use lib.ListN.{length, replicate};
-ghost use Rattle.rules.specs.declared.Kind.the-variants.{String, Padded};
+ghost use Rattle.request.specs.declared.Kind.the-variants.{String, Padded};
 ghost use Rattle.rules.specs.Metadata.{overwrite};
 ghost use Rattle.rules.specs.Object.{contentOf, clip};
 

@@ -4,7 +4,7 @@ use answer::Answer;
 use answer::Refusal;
 use geometry::Layout;
 use numbers::wide;
-use rules::Kind;
+use request::Kind;
 ghost use mathlib.Core.Path.{_≡_};
 ghost use Prim.Native.Nat.{_≤_};
 ghost use lib.ListN.{length};

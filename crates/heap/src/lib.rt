@@ -10,7 +10,6 @@ use geometry::Layout;
 use mwc::Generator;
 use request::Parsed;
 use request::Request;
-use rules::Kind;
 ghost use mathlib.Core.Path.{_≡_};
 ghost use Prim.Native.Nat.{_≤_};
 ghost use lib.ListN.{length};
@@ -60,30 +59,7 @@ fn perform(
         Request::Allocate(size) => allocate::allocate(metadata, layout, size),
         Request::Free(offset) => object::free(metadata, layout, offset),
         Request::Remaining(offset) => object::remaining(metadata, layout, offset),
-        Request::CopyBytes(offset) => copy::copy(
-            heap,
-            metadata,
-            layout,
-            offset,
-            Kind::Bytes,
-            source,
-        ),
-        Request::CopyString(offset) => copy::copy(
-            heap,
-            metadata,
-            layout,
-            offset,
-            Kind::String,
-            source,
-        ),
-        Request::CopyPadded(offset, count) => copy::copy(
-            heap,
-            metadata,
-            layout,
-            offset,
-            Kind::Padded(count),
-            source,
-        ),
+        Request::Copy(offset, kind) => copy::copy(heap, metadata, layout, offset, kind, source),
     }
 }
 

@@ -7,14 +7,15 @@ use lib.ListN.{length, getD, drop}
 use lib.Dec.{eqb}
 use Rattle.words.specs.Word.{wordOf}
 use Rattle.request.specs.declared.Request.{Request}
-use Rattle.request.specs.declared.Request.the-variants.{Allocate, Free, Remaining, CopyBytes, CopyString, CopyPadded}
+use Rattle.request.specs.declared.Request.the-variants.{Allocate, Free, Remaining, Copy}
+use Rattle.request.specs.declared.Kind.the-variants.{Bytes, String, Padded}
 use Rattle.request.specs.declared.Parsed.{Parsed}
 use Rattle.request.specs.declared.Parsed.the-variants.{Whole, Malformed}
 
 -- in the order of their numbers; the paper's place, free, measure, plain copy, text copy and counted copy
 abbrev pub operations : ℕ → ℕ → List Request
 operations argument count =
-    Allocate argument ∷ Free argument ∷ Remaining argument ∷ CopyBytes argument ∷ CopyString argument ∷ CopyPadded argument count ∷ []
+    Allocate argument ∷ Free argument ∷ Remaining argument ∷ Copy argument Bytes ∷ Copy argument String ∷ Copy argument (Padded count) ∷ []
 
 abbrev pub operation : ℕ → ℕ → ℕ → Parsed
 operation code argument count = getD (map Whole (operations argument count)) code Malformed

@@ -2,13 +2,18 @@
 ghost use mathlib.Core.Path.{_≡_};
 ghost use Rattle.request.specs.Parse.{operation, countAllowed, parse};
 
+// What a copy writes: the source; the source through its first zero byte; or the source before it, and zeros up to a count.
+pub enum Kind {
+    Bytes,
+    String,
+    Padded(u32),
+}
+
 pub enum Request {
     Allocate(u32),
     Free(u32),
     Remaining(u32),
-    CopyBytes(u32),
-    CopyString(u32),
-    CopyPadded(u32, u32),
+    Copy(u32, Kind),
 }
 
 pub enum Parsed {
@@ -23,9 +28,9 @@ fn of_operation(code: u32, argument: u32, count: u32) -> Parsed
         0 => Parsed::Whole(Request::Allocate(argument)),
         1 => Parsed::Whole(Request::Free(argument)),
         2 => Parsed::Whole(Request::Remaining(argument)),
-        3 => Parsed::Whole(Request::CopyBytes(argument)),
-        4 => Parsed::Whole(Request::CopyString(argument)),
-        5 => Parsed::Whole(Request::CopyPadded(argument, count)),
+        3 => Parsed::Whole(Request::Copy(argument, Kind::Bytes)),
+        4 => Parsed::Whole(Request::Copy(argument, Kind::String)),
+        5 => Parsed::Whole(Request::Copy(argument, Kind::Padded(count))),
         _ => Parsed::Malformed,
     }
 }

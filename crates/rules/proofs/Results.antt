@@ -11,13 +11,12 @@ use Rattle.mwc.specs.declared.Generator.{Generator}
 use Rattle.geometry.specs.declared.Layout.{Layout}
 use Rattle.geometry.specs.Layout.{classOf, slots, slotStart, locate, metadataLength}
 use Rattle.request.specs.declared.Request.{Request}
-use Rattle.request.specs.declared.Request.the-variants.{Allocate, Free, Remaining, CopyBytes, CopyString, CopyPadded}
+use Rattle.request.specs.declared.Request.the-variants.{Allocate, Free, Remaining, Copy}
 use Rattle.request.specs.declared.Parsed.{Parsed}
 use Rattle.request.specs.declared.Parsed.the-variants.{Whole, Malformed}
 use Rattle.answer.specs.declared.Refusal.{Refusal}
 use Rattle.rules.specs.Outcome.{Outcome, refused, allocated, freed, told, reply, metadataAfter}
 use Rattle.rules.specs.Allocate.{taken, allocate}
-use Rattle.rules.specs.declared.Kind.the-variants.{String, Padded}
 use Rattle.rules.specs.Object.{space, free, remaining, copy, contentOf}
 use Rattle.rules.specs.Serve.{act}
 use Rattle.rules.specs.Run.{Step, Event}
@@ -89,11 +88,7 @@ module _ (G : Layout) (m : List ℕ) where
       served-or-refused _ (free-comes offset)
       (λ e. let (start, ends) = free-ends G m fits offset e in (turn 0 _ _, freeing offset start ends))
   result fits source (Whole (Remaining offset)) = served-or-refused _ (remaining-comes offset) (λ e. (none, measuring _ tt _ _ _))
-  result fits source (Whole (CopyBytes offset)) = served-or-refused _ (copy-comes offset source) (λ e. (none, measuring _ tt _ _ _))
-  result fits source (Whole (CopyString offset)) =
-      served-or-refused _ (copy-comes offset (contentOf String source)) (λ e. (none, measuring _ tt _ _ _))
-  result fits source (Whole (CopyPadded offset count)) =
-      served-or-refused _ (copy-comes offset (contentOf (Padded count) source)) (λ e. (none, measuring _ tt _ _ _))
+  result fits source (Whole (Copy offset kind)) = served-or-refused _ (copy-comes offset (contentOf kind source)) (λ e. (none, measuring _ tt _ _ _))
   result fits source Malformed = (none, refusal Malformed _)
 
 -- ---- a change, in the metadata

@@ -10,7 +10,7 @@ use Rattle.geometry.specs.declared.Layout.{Layout}
 use Rattle.geometry.specs.Layout.{slots, slotStart}
 use Rattle.bitmap.specs.Bitmap.{bit, countSet}
 use Rattle.request.specs.declared.Request.{Request}
-use Rattle.request.specs.declared.Request.the-variants.{Allocate, Free, Remaining, CopyBytes, CopyString, CopyPadded}
+use Rattle.request.specs.declared.Request.the-variants.{Allocate, Free, Remaining, Copy}
 use Rattle.request.specs.declared.Parsed.{Parsed}
 use Rattle.request.specs.declared.Parsed.the-variants.{Whole}
 use Rattle.answer.specs.Reply.{numberOf}
@@ -67,9 +67,7 @@ measuring-leaves : (G : Layout) (os : List Object) (q : Request) (value : ℕ) �
 measuring-leaves G os (Allocate size) value h = absurd h
 measuring-leaves G os (Free offset) value h = absurd h
 measuring-leaves G os (Remaining offset) value h = refl
-measuring-leaves G os (CopyBytes offset) value h = refl
-measuring-leaves G os (CopyString offset) value h = refl
-measuring-leaves G os (CopyPadded offset count) value h = refl
+measuring-leaves G os (Copy offset kind) value h = refl
 
 module _ (G : Layout) (m m′ : List ℕ) (os : List Object) (t : Tracks G m os) where
   -- a bit changes, and the objects change with it at that slot and nowhere else

@@ -3,7 +3,7 @@ use Prim.Native.Nat.{ℕ, _+_, _*_, _≤_}
 use mathlib.Core.Bool.{true, false, cond, _&&_}
 use mathlib.Core.List.{List, [], _∷_}
 use lib.Dec.{leb, ltb, eqb}
-use Rattle.request.specs.declared.Request.the-variants.{Allocate, Free, Remaining, CopyBytes, CopyString, CopyPadded}
+use Rattle.request.specs.declared.Request.the-variants.{Allocate, Free, Remaining, Copy}
 use Rattle.request.specs.declared.Parsed.{Parsed}
 use Rattle.request.specs.declared.Parsed.the-variants.{Whole, Malformed}
 use Rattle.geometry.specs.declared.Layout.{Layout}
@@ -25,9 +25,7 @@ abbrev pub servedAfter : Layout → List Object → Parsed → ℕ → List Obje
 servedAfter G os (Whole (Allocate size)) value = record { start = value; class = classOf G size } ∷ os
 servedAfter G os (Whole (Free offset)) value = without offset os
 servedAfter G os (Whole (Remaining offset)) value = os
-servedAfter G os (Whole (CopyBytes offset)) value = os
-servedAfter G os (Whole (CopyString offset)) value = os
-servedAfter G os (Whole (CopyPadded offset count)) value = os
+servedAfter G os (Whole (Copy offset kind)) value = os
 servedAfter G os Malformed value = os
 
 unfoldable pub objectsAfter : Layout → List Object → Event → List Object

@@ -10,8 +10,8 @@ use Rattle.geometry.specs.declared.Location.{Location}
 use Rattle.geometry.specs.Layout.{heapLength, slotSize, slots, locate}
 use Rattle.bitmap.specs.Bitmap.{isSet}
 use Rattle.answer.specs.declared.Refusal.the-variants.{OutOfRange, NotASlotStart, NotAllocated}
-use Rattle.rules.specs.declared.Kind.{Kind}
-use Rattle.rules.specs.declared.Kind.the-variants.{Bytes, String, Padded}
+use Rattle.request.specs.declared.Kind.{Kind}
+use Rattle.request.specs.declared.Kind.the-variants.{Bytes, String, Padded}
 use Rattle.rules.specs.Metadata.{bitmapOf}
 use Rattle.rules.specs.Outcome.{Outcome, refused, freed, told}
 

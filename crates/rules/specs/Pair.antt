@@ -3,7 +3,7 @@ use Prim.Native.Nat.{ℕ}
 use mathlib.Core.Path.{_≡_}
 use mathlib.Core.List.{List, [], _∷_}
 use Rattle.request.specs.declared.Request.{Request}
-use Rattle.request.specs.declared.Request.the-variants.{Allocate, Free, Remaining, CopyBytes, CopyString, CopyPadded}
+use Rattle.request.specs.declared.Request.the-variants.{Allocate, Free, Remaining, Copy}
 use Rattle.request.specs.declared.Parsed.the-variants.{Whole}
 use Rattle.geometry.specs.declared.Layout.{Layout}
 use Rattle.geometry.specs.Layout.{classOf}
@@ -17,9 +17,7 @@ abbrev pub Measures : Request → Type 0
 Measures (Allocate size) = ⊥
 Measures (Free offset) = ⊥
 Measures (Remaining offset) = Unit {0}
-Measures (CopyBytes offset) = Unit {0}
-Measures (CopyString offset) = Unit {0}
-Measures (CopyPadded offset count) = Unit {0}
+Measures (Copy offset kind) = Unit {0}
 
 -- two served allocations in one size class, two served frees at one offset, two served measurings or copies, in any mix, of one value, or two
 -- refusals with one number

@@ -7,12 +7,11 @@ use lib.Dec.{eqb}
 use Rattle.geometry.specs.declared.Layout.{Layout}
 use Rattle.geometry.specs.Layout.{layoutOf, metadataLength}
 use Rattle.request.specs.declared.Request.{Request}
-use Rattle.request.specs.declared.Request.the-variants.{Allocate, Free, Remaining, CopyBytes, CopyString, CopyPadded}
+use Rattle.request.specs.declared.Request.the-variants.{Allocate, Free, Remaining, Copy}
 use Rattle.request.specs.declared.Parsed.{Parsed}
 use Rattle.request.specs.declared.Parsed.the-variants.{Whole, Malformed}
 use Rattle.request.specs.Parse.{parse}
 use Rattle.answer.specs.declared.Refusal.the-variants.{HeapLength, MetadataLength, MalformedRequest}
-use Rattle.rules.specs.declared.Kind.the-variants.{Bytes, String, Padded}
 use Rattle.rules.specs.Outcome.{Outcome, refused}
 use Rattle.rules.specs.Allocate.{allocate}
 use Rattle.rules.specs.Object.{free, remaining, copy, contentOf}
@@ -21,9 +20,7 @@ abbrev pub perform : Layout → List ℕ → List ℕ → Request → Outcome
 perform G m source (Allocate size) = allocate G m size
 perform G m source (Free offset) = free G m offset
 perform G m source (Remaining offset) = remaining G m offset
-perform G m source (CopyBytes offset) = copy G m offset (contentOf Bytes source)
-perform G m source (CopyString offset) = copy G m offset (contentOf String source)
-perform G m source (CopyPadded offset count) = copy G m offset (contentOf (Padded count) source)
+perform G m source (Copy offset kind) = copy G m offset (contentOf kind source)
 
 -- a request that was read, or refused
 abbrev pub act : Layout → List ℕ → List ℕ → Parsed → Outcome

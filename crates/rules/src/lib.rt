@@ -1,4 +1,4 @@
-// The rules of the heap: what opening and each request come to, and the theorem over whole runs. It has no code but two types that the
+// The rules of the heap: what opening and each request come to, and the theorem over whole runs. It has no code but a type that the
 // definitions and the code share.
 use mwc::Generator;
 
@@ -6,11 +6,4 @@ use mwc::Generator;
 pub struct Found {
     pub slot: usize,
     pub generator: Generator,
-}
-
-// What a copy writes: the source; the source through its first zero byte; or the source before it, and zeros up to a count.
-pub enum Kind {
-    Bytes,
-    String,
-    Padded(u32),
 }

@@ -27,18 +27,6 @@ enum-known-request-4 c = search needs
 copy-requires : tie.Need-copy-requires
 copy-requires c κs = search needs
 
-enum-known-request-5 : tie.Need-enum-known-request-5
-enum-known-request-5 c = search needs
-
-copy-requires-2 : tie.Need-copy-requires-2
-copy-requires-2 c κs = search needs
-
-enum-known-request-6 : tie.Need-enum-known-request-6
-enum-known-request-6 c = search needs
-
-copy-requires-3 : tie.Need-copy-requires-3
-copy-requires-3 c κs = search needs
-
 same-length : tie.Need-same-length
 same-length c = search needs
 
@@ -66,24 +54,6 @@ same-length-5 c = search needs
 returns-4 : tie.Need-returns-4
 returns-4 c = rw (c .before .before .before .before .before .before .request4 .given .1) (c .before .before .copy .ensures .0, (copy-metadata _ _ _ _, c .before .before .copy .ensures .1))
 
-same-length-6 : tie.Need-same-length-6
-same-length-6 c = search needs
-
-same-length-7 : tie.Need-same-length-7
-same-length-7 c = search needs
-
-returns-5 : tie.Need-returns-5
-returns-5 c = rw (c .before .before .before .before .before .before .request5 .given .1) (c .before .before .copy2 .ensures .0, (copy-metadata _ _ _ _, c .before .before .copy2 .ensures .1))
-
-same-length-8 : tie.Need-same-length-8
-same-length-8 c = search needs
-
-same-length-9 : tie.Need-same-length-9
-same-length-9 c = search needs
-
-returns-6 : tie.Need-returns-6
-returns-6 c = rw (c .before .before .before .before .before .before .request6 .given .1) (c .before .before .copy3 .ensures .0, (copy-metadata _ _ _ _, c .before .before .copy3 .ensures .1))
-
 pub perform-spec : {M : Type 1} → statement M
 perform-spec =
     tie.close
@@ -96,10 +66,6 @@ perform-spec =
     remaining-requires
     enum-known-request-4
     copy-requires
-    enum-known-request-5
-    copy-requires-2
-    enum-known-request-6
-    copy-requires-3
     same-length
     returns
     same-length-2
@@ -108,10 +74,4 @@ perform-spec =
     returns-3
     same-length-4
     same-length-5
-    returns-4
-    same-length-6
-    same-length-7
-    returns-5
-    same-length-8
-    same-length-9
-    returns-6)
+    returns-4)
