@@ -27,7 +27,7 @@ expected: lib
 	cd tests && cargo build --release --offline --quiet
 	target/tests/release/conformance < crates/conformance/stdin > crates/conformance/stdout
 
-bench: lib
-	rt check benchrun > target/bench.log 2>&1 || { tail -n 20 target/bench.log; exit 1; }
-	cd tests && cargo build --release --offline --quiet
-	target/tests/release/bench target/bin/benchrun
+bench:
+	@mkdir -p target && { rt staticlib capi && rt check benchrun; } > target/bench.log 2>&1 || { tail -n 20 target/bench.log; exit 1; }
+	@cd tests && cargo build --release --offline --quiet
+	@target/tests/release/bench target/bin/benchrun

@@ -44,6 +44,7 @@ pub enum Empty {
 }
 
 impl Empty {
+    #[inline]
     fn shared(self, bytes: &[u8]) -> *const u8 {
         match self {
             Empty::Null if bytes.is_empty() => std::ptr::null(),
@@ -51,6 +52,7 @@ impl Empty {
         }
     }
 
+    #[inline]
     fn unique(self, bytes: &mut [u8]) -> *mut u8 {
         match self {
             Empty::Null if bytes.is_empty() => std::ptr::null_mut(),
@@ -59,24 +61,29 @@ impl Empty {
     }
 }
 
+#[inline]
 pub fn open(heap: &[u8], metadata: &mut [u8], z: u32, w: u32) -> Answer {
     open_with(Empty::Dangling, heap, metadata, z, w)
 }
 
+#[inline]
 pub fn serve(heap: &mut [u8], metadata: &mut [u8], request: &[u8], source: &[u8]) -> Answer {
     serve_with(Empty::Dangling, heap, metadata, request, source)
 }
 
+#[inline]
 pub fn vote(blocks: &[u8], replicas: usize, block_len: usize, output: &mut [u8]) -> Verdict {
     vote_with(Empty::Dangling, blocks, replicas, block_len, output)
 }
 
+#[inline]
 pub fn metadata_length(heap_len: usize) -> usize {
     // SAFETY: the function takes and returns numbers only.
     unsafe { poheldu_metadata_length(heap_len) }
 }
 
 /// `open`, with empty slices passed as `empty` says.
+#[inline]
 pub fn open_with(empty: Empty, heap: &[u8], metadata: &mut [u8], z: u32, w: u32) -> Answer {
     let (heap_len, metadata_len) = (heap.len(), metadata.len());
     let (heap, metadata) = (empty.shared(heap), empty.unique(metadata));
@@ -85,6 +92,7 @@ pub fn open_with(empty: Empty, heap: &[u8], metadata: &mut [u8], z: u32, w: u32)
 }
 
 /// `serve`, with empty slices passed as `empty` says.
+#[inline]
 pub fn serve_with(
     empty: Empty,
     heap: &mut [u8],
@@ -109,6 +117,7 @@ pub fn serve_with(
 }
 
 /// `vote`, with empty slices passed as `empty` says.
+#[inline]
 pub fn vote_with(
     empty: Empty,
     blocks: &[u8],

@@ -1,0 +1,237 @@
+//! Each operation against the second implementation, both on the same heap and with the same requests.
+
+use crate::heap::{allocate, figure, free, remaining, request, Heap, Request};
+use crate::measure::{head, repeat, row, time};
+use crate::votes;
+use poheldu_tests::reference::Answer;
+use poheldu_tests::{capi, reference};
+use std::hint::black_box;
+
+/// The calls of a round.
+const CALLS: usize = 512;
+
+/// Requests on a heap in a known state, and the refusal's number that all of them get.
+struct Case {
+    name: String,
+    number: u32,
+    heap: Heap,
+    requests: Vec<Request>,
+    source: Vec<u8>,
+}
+
+impl Case {
+    /// One request many times. It leaves the metadata as they are.
+    fn same(name: &str, number: u32, heap: &Heap, request: Request, source: &[u8]) -> Case {
+        Case {
+            name: name.into(),
+            number,
+            heap: heap.clone(),
+            requests: vec![request; CALLS],
+            source: source.to_vec(),
+        }
+    }
+
+    fn answers(&self, serve: impl Fn(&mut [u8], &mut [u8], &[u8], &[u8]) -> Answer) -> Vec<Answer> {
+        let mut heap = self.heap.clone();
+        let mut one = |r: &Request| serve(&mut heap.bytes, &mut heap.metadata, r, &self.source);
+        self.requests.iter().map(&mut one).collect()
+    }
+
+    /// The case is what it says it is, for both implementations.
+    fn check(&self) {
+        let answers = self.answers(capi::serve);
+        assert!(answers.iter().all(|a| a.number == self.number));
+        assert_eq!(answers, self.answers(reference::serve));
+    }
+
+    fn row(&self) {
+        self.check();
+        let (mut ours, mut theirs) = (Stage::new(self), Stage::new(self));
+        row(
+            &self.name,
+            [&mut || ours.run(capi::serve), &mut || {
+                theirs.run(reference::serve)
+            }],
+        );
+    }
+}
+
+/// What one implementation runs a case on: the metadata several times where the requests are few.
+struct Stage<'a> {
+    case: &'a Case,
+    bytes: Vec<u8>,
+    metadata: Vec<Vec<u8>>,
+}
+
+impl Stage<'_> {
+    fn new(case: &Case) -> Stage<'_> {
+        let times = CALLS.div_ceil(case.requests.len());
+        Stage {
+            case,
+            bytes: case.heap.bytes.clone(),
+            metadata: vec![case.heap.metadata.clone(); times],
+        }
+    }
+
+    fn run(&mut self, serve: impl Fn(&mut [u8], &mut [u8], &[u8], &[u8]) -> Answer) -> f64 {
+        for metadata in &mut self.metadata {
+            metadata.copy_from_slice(&self.case.heap.metadata);
+        }
+        time(self.metadata.len() * self.case.requests.len(), || {
+            for metadata in &mut self.metadata {
+                for request in &self.case.requests {
+                    let request = black_box(&request[..]);
+                    black_box(serve(&mut self.bytes, metadata, request, &self.case.source));
+                }
+            }
+        })
+    }
+}
+
+/// The last allocations of a size before its class is half full.
+fn allocating(region: usize, size: usize) -> Case {
+    let half = region / size / 2;
+    let count = (half / 2).min(CALLS);
+    let mut heap = Heap::new(region);
+    heap.fill(size, half - count);
+    Case {
+        name: format!("allocate, {size} bytes"),
+        number: 0,
+        heap,
+        requests: vec![allocate(size); count],
+        source: vec![],
+    }
+}
+
+/// Frees of objects of a size, whose class is half full at first.
+fn freeing(region: usize, size: usize) -> Case {
+    let half = region / size / 2;
+    let mut heap = Heap::new(region);
+    let mut objects = heap.fill(size, half);
+    objects.truncate(CALLS);
+    Case {
+        name: format!("free, {size} bytes"),
+        number: 0,
+        heap,
+        requests: objects.into_iter().map(free).collect(),
+        source: vec![],
+    }
+}
+
+fn refusals(region: usize) -> Vec<Case> {
+    let mut heap = Heap::new(region);
+    heap.fill(8, region / 16);
+    let at = heap.fill(256, 1)[0];
+    let clear = (0..region as u32 / 256)
+        .map(|slot| 5 * region as u32 + 256 * slot)
+        .find(|&other| other != at)
+        .expect("at least four slots");
+    let end = 12 * region as u32;
+    let case = |name, number, request| Case::same(name, number, &heap, request, &[]);
+    vec![
+        case("request refused, malformed", 4, request(9, 0, 0)),
+        case("allocate refused, 0 bytes", 5, allocate(0)),
+        case("allocate refused, at capacity", 7, allocate(8)),
+        case("free refused, out of range", 8, free(end)),
+        case("free refused, not a slot start", 9, free(at + 1)),
+        case("free refused, not allocated", 10, free(clear)),
+        case("remaining size refused", 8, remaining(end)),
+    ]
+}
+
+fn lookups_and_copies(region: usize) -> Vec<Case> {
+    let mut heap = Heap::new(region);
+    let at = heap.fill(256, 1)[0];
+    let text = [65; 300];
+    let mut closed = text;
+    closed[128] = 0;
+    let case = |name, request, source: &[u8]| Case::same(name, 0, &heap, request, source);
+    let (bytes, string, padded) = (request(3, at, 0), request(4, at, 0), request(5, at, 256));
+    vec![
+        case("remaining size, live", remaining(at + 1), &[]),
+        case("remaining size, nothing live", remaining(0), &[]),
+        case("copy bytes, none", bytes, &[]),
+        case("copy bytes, 256", bytes, &text[..256]),
+        case("copy bytes, 300 clipped to 256", bytes, &text),
+        case("copy string, 256 of 300", string, &text),
+        case("copy string, 129", string, &closed),
+        case("copy padded, 256 of 300", padded, &text),
+        case("copy padded, 128 and 128 zeros", padded, &closed),
+        case("copy padded, 256 zeros", padded, &[]),
+    ]
+}
+
+fn metadata_lengths(region: usize) {
+    let heap_len = 12 * region;
+    row(
+        "metadata length",
+        [
+            &mut || {
+                repeat(CALLS, &heap_len, |&heap_len| {
+                    black_box(capi::metadata_length(heap_len));
+                })
+            },
+            &mut || {
+                repeat(CALLS, &heap_len, |&heap_len| {
+                    black_box(reference::metadata_length(heap_len));
+                })
+            },
+        ],
+    );
+}
+
+fn openings(region: usize, name: &str, seed: u32) {
+    let heap = Heap::new(region);
+    let (mut ours, mut theirs) = (heap.metadata.clone(), heap.metadata);
+    row(
+        name,
+        [
+            &mut || {
+                repeat(CALLS, &seed, |&z| {
+                    black_box(capi::open(&heap.bytes, &mut ours, z, 1));
+                })
+            },
+            &mut || {
+                repeat(CALLS, &seed, |&z| {
+                    black_box(reference::open(&heap.bytes, &mut theirs, z, 1));
+                })
+            },
+        ],
+    );
+}
+
+pub fn table(region: usize) {
+    let title = format!(
+        "Operations against the second implementation, regions of {} bytes",
+        figure(region)
+    );
+    head(&title, "operation", &["second"]);
+    metadata_lengths(region);
+    openings(region, "open", 1);
+    openings(region, "open refused, zero seed", 0);
+    for size in [8, 64, 256] {
+        allocating(region, size).row();
+        freeing(region, size).row();
+    }
+    for case in refusals(region)
+        .into_iter()
+        .chain(lookups_and_copies(region))
+    {
+        case.row();
+    }
+    votes::refused_row();
+}
+
+/// One placing over all region lengths.
+pub fn growth() {
+    head(
+        "An allocation of 8 bytes in a class near half full, over the region lengths",
+        "region, bytes",
+        &["second"],
+    );
+    for shift in 10..=20 {
+        let mut case = allocating(1 << shift, 8);
+        case.name = figure(1 << shift);
+        case.row();
+    }
+}
