@@ -1,8 +1,9 @@
-//! Copies against the C library's memcpy: the same source, to the same place of a heap of its own.
+//! Copies against the C library's memcpy: the same source, to the same place.
 
 use crate::heap::{figure, request, Heap};
 use crate::measure::{head, repeat, row};
 use poheldu_tests::{capi, reference};
+use std::cell::RefCell;
 use std::ffi::c_void;
 use std::hint::black_box;
 
@@ -14,48 +15,38 @@ extern "C" {
     fn memcpy(target: *mut c_void, source: *const c_void, len: usize) -> *mut c_void;
 }
 
-/// One operation of copying, with an object of just the source's size.
+/// One operation of copying, to an object of the source's size.
 fn copy(name: &str, operation: u32, size: usize) {
-    let mut ours = Heap::new(1 << 20);
-    let at = ours.fill(size.max(1), 1)[0];
-    let (mut theirs, mut plain) = (ours.clone(), ours.bytes.clone());
+    let mut heap = Heap::new(1 << 20);
+    let at = heap.fill(size.max(1), 1)[0];
     let count = if operation == 5 { size as u32 } else { 0 };
     let (source, request) = (vec![65u8; size], request(operation, at, count));
     let move_bytes = black_box(memcpy as Memcpy);
+    let heap = RefCell::new(heap);
     row(
         name,
         [
             &mut || {
+                let Heap { bytes, metadata } = &mut *heap.borrow_mut();
                 repeat(CALLS, &source[..], |source| {
-                    let request = black_box(&request);
-                    black_box(capi::serve(
-                        &mut ours.bytes,
-                        &mut ours.metadata,
-                        request,
-                        source,
-                    ));
+                    black_box(capi::serve(bytes, metadata, black_box(&request), source));
                 })
             },
             &mut || {
+                let target = &mut heap.borrow_mut().bytes[at as usize..][..size];
                 repeat(CALLS, &source[..], |source| {
-                    let target = &mut plain[at as usize..][..source.len()];
+                    let (to, from) = (target.as_mut_ptr().cast(), source.as_ptr().cast());
                     // SAFETY: the target is as long as the source, and lies elsewhere.
-                    black_box(unsafe {
-                        move_bytes(
-                            target.as_mut_ptr().cast(),
-                            source.as_ptr().cast(),
-                            source.len(),
-                        )
-                    });
+                    black_box(unsafe { move_bytes(to, from, source.len()) });
                 })
             },
             &mut || {
+                let Heap { bytes, metadata } = &mut *heap.borrow_mut();
                 repeat(CALLS, &source[..], |source| {
-                    let request = black_box(&request);
                     black_box(reference::serve(
-                        &mut theirs.bytes,
-                        &mut theirs.metadata,
-                        request,
+                        bytes,
+                        metadata,
+                        black_box(&request),
                         source,
                     ));
                 })

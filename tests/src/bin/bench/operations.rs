@@ -5,6 +5,7 @@ use crate::measure::{head, repeat, row, time};
 use crate::votes;
 use poheldu_tests::reference::Answer;
 use poheldu_tests::{capi, reference};
+use std::cell::RefCell;
 use std::hint::black_box;
 
 /// The calls of a round.
@@ -46,17 +47,17 @@ impl Case {
 
     fn row(&self) {
         self.check();
-        let (mut ours, mut theirs) = (Stage::new(self), Stage::new(self));
+        let stage = RefCell::new(Stage::new(self));
         row(
             &self.name,
-            [&mut || ours.run(capi::serve), &mut || {
-                theirs.run(reference::serve)
+            [&mut || stage.borrow_mut().run(capi::serve), &mut || {
+                stage.borrow_mut().run(reference::serve)
             }],
         );
     }
 }
 
-/// What one implementation runs a case on: the metadata several times where the requests are few.
+/// What both implementations run a case on, in turns: the metadata several times where the requests are few.
 struct Stage<'a> {
     case: &'a Case,
     bytes: Vec<u8>,
