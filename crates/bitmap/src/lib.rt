@@ -72,16 +72,16 @@ fn ones_of(byte: u8) -> u8
     u8::count_ones(byte) as u8
 }
 
-// How many bits of the bytes from `from` up to, not including, `to` are set. A sum in a byte compiles to sixteen additions at once.
-fn count_chunk(bitmap: &[u8], from: usize, to: usize) -> u8
-    requires { ⌜ (from ≤ to) × (to ≤ length (now bitmap)) × (to ≤ from + 16) ⌝ }
-    ensures { λ r. ⌜ countSet (now (bitmap .entry)) (8 * from) + r ≡ countSet (now (bitmap .entry)) (8 * to) ⌝ }
+// How many bits of at most sixteen bytes are set. A sum in a byte compiles to sixteen additions at once.
+fn count_chunk(bitmap: &[u8], from: usize, bytes: usize) -> u8
+    requires { ⌜ (from + bytes ≤ length (now bitmap)) × (bytes ≤ 16) ⌝ }
+    ensures { λ r. ⌜ countSet (now (bitmap .entry)) (8 * from) + r ≡ countSet (now (bitmap .entry)) (8 * (from + bytes)) ⌝ }
 {
     let mut total: u8 = 0;
-    let mut at = from;
-    while at < to {
-        total += ones_of(bitmap[at]);
-        at += 1;
+    let mut i: usize = 0;
+    while i < bytes {
+        total += ones_of(bitmap[from + i]);
+        i += 1;
     }
     total
 }
@@ -94,9 +94,9 @@ fn count_bytes(bitmap: &[u8], bytes: usize) -> usize
     let mut total: usize = 0;
     let mut at: usize = 0;
     while at < bytes {
-        let end = least(bytes, at + CHUNK);
-        total += count_chunk(bitmap, at, end) as usize;
-        at = end;
+        let chunk = least(bytes - at, CHUNK);
+        total += count_chunk(bitmap, at, chunk) as usize;
+        at += chunk;
     }
     total
 }

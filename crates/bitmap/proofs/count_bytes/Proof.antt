@@ -18,8 +18,8 @@ loop-holds : tie.Need-loop-holds Inv-loop μ-loop
 unfolding countSet
 loop-holds c = (omega arith, refl)
 
-add-least : tie.Need-add-least Inv-loop μ-loop
-add-least c = omega arith
+sub-least : tie.Need-sub-least Inv-loop μ-loop
+sub-least c = omega arith
 
 least-requires : tie.Need-least-requires Inv-loop μ-loop
 least-requires c κs = search needs
@@ -36,6 +36,9 @@ loop-again c = (omega arith, rw (c .before .before .before .loop .inv .1) (c .co
 add-total : tie.Need-add-total Inv-loop μ-loop
 add-total c = omega (arith, count-le _ _ _ (loop-again c .1))
 
+add-at : tie.Need-add-at Inv-loop μ-loop
+add-at c = omega arith
+
 loop-less : tie.Need-loop-less Inv-loop μ-loop
 loop-less c = omega arith
 
@@ -50,11 +53,12 @@ count-bytes-spec =
     Inv-loop
     μ-loop
     loop-holds
-    add-least
+    sub-least
     least-requires
     count-chunk-requires
     cast-total
     add-total
+    add-at
     loop-less
     loop-again
     returns)
