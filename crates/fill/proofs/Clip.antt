@@ -10,7 +10,8 @@ use native.Mathlib.Omega.{arith}
 use lib.Dec.{eqb}
 use lib.ListN.{length, take, drop, replicate, length-append, length-take, length-drop, length-replicate, take-append-drop, drop-of-length-le}
 use lib.Seq.{take-all, take-length, drop-length, length-take-le, take-take, take-at, drop-at, drop-drop, take-append-le, take-append-add, drop-append-le}
-use Rattle.bytes.specs.Bytes.{indexOf, indexAfter, slice}
+use Rattle.bytes.specs.Bytes.{indexOf}
+use Rattle.fill.proofs.Index.{index-le}
 use Rattle.request.specs.declared.Kind.the-variants.{String, Padded}
 use Rattle.rules.specs.Metadata.{overwrite}
 use Rattle.rules.specs.Object.{contentOf, clip}
@@ -74,26 +75,7 @@ enough s t n h =
 
 -- ---- contents
 
--- a search of the first n elements
-index-take : (b : ℕ) (xs : List ℕ) (n : ℕ) → indexOf b (take n xs) ≡ min n (indexOf b xs)
-unfolding indexOf indexAfter
-index-take b [] zero = refl
-index-take b [] (suc n) = omega arith
-index-take b (x ∷ xs) zero = omega arith
-index-take b (x ∷ xs) (suc n) = go (eqb x b) refl (index-take b xs n)
-  where
-    go : (t : Bool) → eqb x b ≡ t → indexOf b (take n xs) ≡ min n (indexOf b xs) → indexOf b (take (suc n) (x ∷ xs)) ≡ min (suc n) (indexOf b (x ∷ xs))
-    go true e rest = rw e (omega arith)
-    go false e rest = rw (e, rest) (omega arith)
-
-index-le : (b : ℕ) (xs : List ℕ) → indexOf b xs ≤ length xs
-index-le b xs = omega (arith, index-take b xs (length xs), ap (indexOf b) (take-length xs))
-
-module _ (s : List ℕ) (n : ℕ) {end : ℕ} (at : end ≡ 0 + indexOf 0 (slice 0 n s)) where
-  found : end ≡ min n (indexOf 0 s)
-  unfolding slice
-  found = at ∙ rw zero-add (index-take 0 s n)
-
+module _ (s : List ℕ) (n : ℕ) {end : ℕ} (found : end ≡ min n (indexOf 0 s)) where
   -- the source through the zero byte that was found
   pub string-part : end < n → take (end + 1 - 0) s ≡ contentOf String s
   string-part h = let all : end ≡ indexOf 0 s = omega (arith, found) in rw (← all, sub-zero, add-one)
@@ -105,6 +87,9 @@ module _ (s : List ℕ) (n : ℕ) {end : ℕ} (at : end ≡ 0 + indexOf 0 (slice
   string-whole t e h (p, q) =
       let (fits, same) = enough s t (suc (indexOf 0 s)) (omega (arith, found)) in
       (p ∙ fits, q ∙ same)
+
+sub-le : {a b : ℕ} (c : ℕ) → a ≤ b → a - c ≤ b - c
+sub-le c h = omega arith
 
 take-zeros : (k n : ℕ) → k ≤ n → take k (replicate n 0) ≡ replicate {A = ℕ} k 0
 take-zeros zero n h = refl
@@ -138,18 +123,18 @@ module _ (s t : List ℕ) (count : ℕ) where
 
   -- the text copied and the rest cleared
   pub padded-put : {room seen text : ℕ} {mid zeros : List ℕ} → room ≡ min count (length t) → seen ≡ min (length s) room
-      → text ≡ 0 + indexOf 0 (slice 0 seen s)
+      → text ≡ min seen (indexOf 0 s)
       → mid ≡ overwrite t 0 (take (text - 0) s)
       → zeros ≡ replicate (length (take (room - text) (drop text mid))) 0
       → (room ≡ min (length (contentOf (Padded count) s)) (length t))
       × (take text mid ++ (zeros ++ drop (room - text) (drop text mid)) ≡ clip (contentOf (Padded count) s) t)
   padded-put {room} {seen} {text} {mid} {zeros} roomy view at copied cleared =
-      let cut : text ≡ min room (indexOf 0 s) = omega (arith, found s seen at, index-le 0 s) in
+      let cut : text ≡ min room (indexOf 0 s) = omega (arith, at, index-le 0 s) in
       let size : length (take text s) ≡ text = length-take-le text s (omega (arith, index-le 0 s)) in
       let middle : mid ≡ take text s ++ drop text t = copied ∙ rw (sub-zero, size) in
       let before : take text mid ≡ take text s = rw middle (take-at (take text s) (drop text t) text size) in
       let after : drop text mid ≡ drop text t = rw middle (drop-at (take text s) (drop text t) text size) in
-      let left : length (take (room - text) (drop text t)) ≡ room - text = rw (length-take, length-drop) (omega arith) in
+      let left : length (take (room - text) (drop text t)) ≡ room - text = length-take-le (room - text) (drop text t) (rw length-drop (sub-le text (omega arith))) in
       let fill : zeros ≡ replicate (room - text) 0 = cleared ∙ rw (after, left) in
       let end : text + (room - text) ≡ room = omega arith in
       let all : room ≡ min (length (contentOf (Padded count) s)) (length t) = rw padded-length roomy in (

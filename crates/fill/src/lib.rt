@@ -5,12 +5,16 @@ use request::Kind;
 ghost use mathlib.Core.Path.{_≡_};
 ghost use Prim.Native.Nat.{min, _≤_};
 ghost use lib.ListN.{length, replicate};
+ghost use lib.Dec.{ltb};
+ghost use Rattle.bytes.specs.Bytes.{indexOf};
 ghost use Rattle.request.specs.declared.Kind.the-variants.{String, Padded};
 ghost use Rattle.rules.specs.Metadata.{overwrite};
 ghost use Rattle.rules.specs.Object.{contentOf, clip};
 
 // The longest object.
 const LONGEST: usize = 16384;
+
+const BLOCK: usize = 32;
 
 // Writes zeros throughout.
 pub fn clear(bytes: &mut [u8])
@@ -21,6 +25,35 @@ pub fn clear(bytes: &mut [u8])
         bytes[i] = 0;
         i += 1;
     }
+}
+
+// Whether a byte is zero. The loop has no early exit, so that it vectorises.
+fn has_zero(source: &[u8]) -> bool
+    ensures { λ r. ⌜ r ≡ ltb (indexOf 0 (now (source .entry))) (length (now (source .entry))) ⌝ }
+{
+    let mut found = false;
+    let mut i: usize = 0;
+    while i < source.len() {
+        found = found | (source[i] == 0);
+        i += 1;
+    }
+    found
+}
+
+// The index of the first zero byte of the first `count`; `count` where there is none. A block without one is passed over at once.
+fn find_zero(source: &[u8], count: usize) -> usize
+    requires { ⌜ count ≤ length (now source) ⌝ }
+    ensures { λ r. ⌜ r ≡ min count (indexOf 0 (now (source .entry))) ⌝ }
+{
+    let mut at: usize = 0;
+    while BLOCK <= count - at {
+        let end = at + BLOCK;
+        if has_zero(&source[at..end]) {
+            return bytes::scan::find(source, at, end, 0);
+        }
+        at = end;
+    }
+    bytes::scan::find(source, at, count, 0)
 }
 
 // Copies the whole source to the front of the target. By way of an array of its own: the compiler then knows that nothing overlaps and makes one block move.
@@ -56,7 +89,7 @@ fn write_string(target: &mut [u8], source: &[u8]) -> usize
     ensures { λ _. ⌜ now (target .exit) ≡ clip (contentOf String (now (source .entry))) (now (target .entry)) ⌝ }
 {
     let seen = least(source.len(), target.len());
-    let end = bytes::scan::find(source, 0, seen, 0);
+    let end = find_zero(source, seen);
     if end < seen {
         let past = end + 1;
         return write_bytes(target, &source[0..past]);
@@ -71,7 +104,7 @@ fn write_padded(target: &mut [u8], source: &[u8], count: u32) -> usize
 {
     let room = least(wide(count), target.len());
     let seen = least(source.len(), room);
-    let text = bytes::scan::find(source, 0, seen, 0);
+    let text = find_zero(source, seen);
     block_move(&source[0..text], target);
     clear(&mut target[text..room]);
     room

@@ -12,8 +12,8 @@ least-requires c κs = search needs
 least-requires-2 : tie.Need-least-requires-2
 least-requires-2 c κs = search needs
 
-find-requires : tie.Need-find-requires
-find-requires c κs = search needs
+find-zero-requires : tie.Need-find-zero-requires
+find-zero-requires c κs = search needs
 
 sub-block-move : tie.Need-sub-block-move
 sub-block-move c = search needs
@@ -45,7 +45,7 @@ same-length c = search needs
 returns : tie.Need-returns
 returns c =
     let l = c .before .before .before .before .before .before .before .before .before .before .before .least .ensures in
-    padded-put _ _ _ (rw (c .before .before .before .before .before .before .before .before .before .before .before .before .wide .ensures .0) at l) (c .before .before .before .before .before .before .before .before .before .before .least2 .ensures) (c .before .before .before .before .before .before .before .before .before .find .ensures .0) (c .before .before .before .before .before .before .block-move .ensures .1) (c .before .before .clear .ensures)
+    padded-put _ _ _ (rw (c .before .before .before .before .before .before .before .before .before .before .before .before .wide .ensures .0) at l) (c .before .before .before .before .before .before .before .before .before .before .least2 .ensures) (c .before .before .before .before .before .before .before .before .before .find-zero .ensures) (c .before .before .before .before .before .before .block-move .ensures .1) (c .before .before .clear .ensures)
 
 pub write-padded-spec : {M : Type 1} → statement M
 write-padded-spec =
@@ -54,7 +54,7 @@ write-padded-spec =
     wide-requires
     least-requires
     least-requires-2
-    find-requires
+    find-zero-requires
     sub-block-move
     part-block-move-start
     part-block-move-end

@@ -6,8 +6,8 @@ use Rattle.fill.proofs.write_string.Tie as tie
 least-requires : tie.Need-least-requires
 least-requires c κs = search needs
 
-find-requires : tie.Need-find-requires
-find-requires c κs = search needs
+find-zero-requires : tie.Need-find-zero-requires
+find-zero-requires c κs = search needs
 
 add-past : tie.Need-add-past
 add-past c = search needs
@@ -28,7 +28,7 @@ same-length : tie.Need-same-length
 same-length c = search needs
 
 returns : tie.Need-returns
-returns c = rw (← string-part _ _ (c .before .before .before .before .before .before .find .ensures .0) (c .before .before .before .before .before .if1 .taken)) (c .before .before .write-bytes .ensures)
+returns c = rw (← string-part _ _ (c .before .before .before .before .before .before .find-zero .ensures) (c .before .before .before .before .before .if1 .taken)) (c .before .before .write-bytes .ensures)
 
 write-bytes-requires-2 : tie.Need-write-bytes-requires-2
 write-bytes-requires-2 c κs = search needs
@@ -39,14 +39,14 @@ same-length-2 c = search needs
 returns-2 : tie.Need-returns-2
 returns-2 c =
     let a = c .before .before .before .before .before .before .before .before .before .args in
-    string-whole (a .source .now) _ (c .before .before .before .before .before .find .ensures .0) (a .target .now) (c .before .before .before .before .before .before .least .ensures) (c .before .before .before .before .if1 .left) (c .before .before .write-bytes2 .ensures)
+    string-whole (a .source .now) _ (c .before .before .before .before .before .find-zero .ensures) (a .target .now) (c .before .before .before .before .before .before .least .ensures) (c .before .before .before .before .if1 .left) (c .before .before .write-bytes2 .ensures)
 
 pub write-string-spec : {M : Type 1} → statement M
 write-string-spec =
     tie.close
     (tie.spec
     least-requires
-    find-requires
+    find-zero-requires
     add-past
     sub-write-bytes
     part-write-bytes-start
