@@ -1,0 +1,5 @@
+pub mod Names
+pub mod Digits
+pub mod Reading
+pub mod Saying
+pub mod Examples
