@@ -1,99 +1,49 @@
 // Turns lines of text from standard input into requests on standard output, and names each bad line on standard error.
-use assembly::Line;
 use libc::STDERR_FILENO;
 use libc::STDIN_FILENO;
 use libc::STDOUT_FILENO;
 ghost use mathlib.Core.Path.{_≡_};
-ghost use Prim.Native.Nat.{_<_, _≤_};
-ghost use lib.ListN.{length};
-ghost use Rattle.assembly.specs.Message.{messageOf};
+ghost use mathlib.Core.Bool.{cond};
+ghost use Prim.Native.Nat.{_+_, _<_, _≤_};
+ghost use lib.Dec.{eqb};
 
-const REQUEST: usize = 16;
-
-// Reads more input, and answers how many bytes of it there are. Where it has ended, a line of which `kept` bytes are kept gets its end.
-fn refill(input: &mut [u8], kept: usize) -> usize
-    requires { ⌜ 0 < length (now input) ⌝ }
-    ensures { λ r. ⌜ r ≤ length (now (input .exit)) ⌝ }
+// Where the text ends of which `kept` bytes were there and `got` are read: the line end after it counts only where nothing is read.
+fn text_end(kept: usize, got: usize) -> usize
+    requires { ⌜ kept + got < 2048 ⌝ }
+    ensures { λ r. ⌜ (r ≡ cond (eqb got 0) (kept + 1) (kept + got)) × (r ≤ 2048) ⌝ }
 {
-    let got = io::read_full(STDIN_FILENO, input);
-    if got != 0 {
-        return got;
+    if got == 0 {
+        return kept + 1;
     }
-    if kept == 0 {
-        return 0;
-    }
-    input[0] = b'\n';
-    1
-}
-
-// Adds the request of a line to the output, which is written out first where it has no room for one, and answers how much it holds.
-fn put(line: Line, out: &mut [u8], filled: usize) -> usize
-    requires { ⌜ (filled ≤ length (now out)) × (16 ≤ length (now out)) ⌝ }
-    ensures { λ r. ⌜ r ≤ length (now (out .exit)) ⌝ }
-{
-    let Line::Request {
-        operation,
-        argument,
-        count,
-    } = line
-    else {
-        return filled;
-    };
-    let request = assembly::encode(operation, argument, count);
-    if out.len() - filled < REQUEST {
-        io::write_all(STDOUT_FILENO, &out[0..filled]);
-        bytes::copy(&request, out);
-        return REQUEST;
-    }
-    bytes::copy(&request, &mut out[filled..]);
-    filled + REQUEST
-}
-
-// Names a bad line, and answers how long what is said of it is; of any other line nothing is said.
-fn complain(line: Line, number: u64) -> usize
-    ensures { λ r. ⌜ r ≡ length (messageOf line) ⌝ }
-{
-    let mut text = [0u8; 64];
-    let size = assembly::message(line, &mut text);
-    if size != 0 {
-        io::write_all(STDERR_FILENO, b"line ");
-        io::print_decimal(STDERR_FILENO, number);
-        io::write_all(STDERR_FILENO, &text[0..size]);
-    }
-    size
+    kept + got
 }
 
 fn main() {
-    let mut input = io::large_buffer();
-    let mut got: usize = 0;
-    let mut at: usize = 0;
-    // One byte more than a line may have.
+    // The outputs have room for whatever lines the input holds: a request of 16 bytes and a message of 80 for each byte.
+    let mut input = [0u8; 2048];
+    let mut out = [0u8; 32768];
+    let mut errors = [0u8; 163840];
+    // The start of a line whose end is not read yet: one byte more than a line may have tells that it is too long.
     let mut line = [0u8; 256];
     let mut kept: usize = 0;
-    let mut number: u64 = 0;
-    let mut out = io::large_buffer();
-    let mut filled: usize = 0;
+    let mut number: u64 = 1;
     // A proved loop ends: this one ends with the input, or after more turns than any input takes.
     for _ in 0..u64::MAX {
-        if at == got {
-            at = 0;
-            got = refill(&mut input, kept);
-            if got == 0 {
-                break;
-            }
-            continue;
+        bytes::copy(&line[0..kept], &mut input);
+        let got = io::read_full(STDIN_FILENO, &mut input[kept..2047]);
+        if kept + got == 0 {
+            return;
         }
-        let byte = input[at];
-        at += 1;
-        if byte != b'\n' {
-            kept = assembly::keep(&mut line, kept, byte);
-            continue;
-        }
-        let answer = assembly::read(&line[0..kept]);
-        kept = 0;
-        number += 1;
-        filled = put(answer, &mut out, filled);
-        complain(answer, number);
+        // The last line may lack its end.
+        input[kept + got] = b'\n';
+        let end = text_end(kept, got);
+        let done = assembly::assemble(&input[0..end], number, &mut out, &mut errors);
+        let used = done.used;
+        let requests = done.requests;
+        let messages = done.messages;
+        io::write_all(STDOUT_FILENO, &out[0..requests]);
+        io::write_all(STDERR_FILENO, &errors[0..messages]);
+        number = done.next;
+        kept = assembly::keep(&input[used..end], &mut line);
     }
-    io::write_all(STDOUT_FILENO, &out[0..filled]);
 }

@@ -2,3 +2,4 @@ pub mod Text
 pub mod Number
 pub mod Line
 pub mod Message
+pub mod Batch

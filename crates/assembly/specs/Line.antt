@@ -54,3 +54,16 @@ readLine line = cond (ltb 255 (length line)) TooLong (statement (take (find line
 -- four words: the operation, its size or offset, its count, and zero
 abbrev pub requestBytes : ℕ → ℕ → ℕ → List ℕ
 requestBytes operation argument count = bytesOf operation ++ (bytesOf argument ++ (bytesOf count ++ bytesOf 0))
+
+-- its length
+abbrev pub requestSize : ℕ
+requestSize = 16
+
+-- the request that a line asks for; nothing where it asks for none
+unfoldable pub requestOf : Line → List ℕ
+requestOf (Request operation argument count) = requestBytes operation argument count
+requestOf Nothing = []
+requestOf BadOperation = []
+requestOf BadNumber = []
+requestOf TrailingText = []
+requestOf TooLong = []

@@ -1,13 +1,17 @@
 // Lines of text that ask for requests.
+mod batch;
 mod number;
+mod output;
 mod scan;
 
+pub use batch::Done;
+pub use batch::assemble;
+pub use output::keep;
 ghost use mathlib.Core.Path.{_≡_};
 ghost use mathlib.Core.List.{[]};
-ghost use Prim.Native.Nat.{_+_, _%_, _<_, _≤_, min};
-ghost use lib.ListN.{length, take, getD, set};
+ghost use Prim.Native.Nat.{_%_, _<_, _≤_};
+ghost use lib.ListN.{length, getD};
 ghost use Rattle.assembly.specs.Line.{same, names, operationOf, request, numbers, statement, readLine, requestBytes};
-ghost use Rattle.assembly.specs.Message.{messageOf};
 
 pub enum Line {
     Request {
@@ -152,34 +156,4 @@ pub fn encode(operation: u32, argument: u32, count: u32) -> [u8; 16]
         0,
         0,
     ]
-}
-
-// Keeps a byte of a line at its place, where the line's buffer has room, and answers how many bytes are kept.
-pub fn keep(line: &mut [u8], kept: usize, byte: u8) -> usize
-    ensures { λ r. ⌜ r ≡ min (kept + 1) (length (now (line .entry))) ⌝ }
-    ensures { λ _. ⌜ now (line .exit) ≡ set (now (line .entry)) kept byte ⌝ }
-{
-    if kept < line.len() {
-        line[kept] = byte;
-        return kept + 1;
-    }
-    line.len()
-}
-
-// Writes at the front what is wrong with a line, and answers how many bytes it wrote.
-pub fn message(line: Line, out: &mut [u8; 64]) -> usize
-    ensures { λ r. ⌜ (r ≡ length (messageOf line)) × (take r (now (out .exit)) ≡ messageOf line) ⌝ }
-    ensures { λ r. ⌜ (r ≤ 64) × (length (now (out .exit)) ≡ 64) ⌝ }
-{
-    match line {
-        Line::BadOperation => bytes::copy(
-            b": expected place, free, measure, copy, text or counted\n",
-            out,
-        ),
-        Line::BadNumber => bytes::copy(b": expected a number from 0 to 4294967295\n", out),
-        Line::TrailingText => bytes::copy(b": expected nothing after the numbers\n", out),
-        Line::TooLong => bytes::copy(b": too long\n", out),
-        Line::Nothing => bytes::copy(b"", out),
-        Line::Request { .. } => bytes::copy(b"", out),
-    }
 }

@@ -2,105 +2,96 @@ use Prim.Native.Nat.{ℕ, _-_, _^_, _≤_}
 use mathlib.Core.Path.{_≡_}
 use mathlib.Core.List.{List}
 use native.Mathlib.Omega.{arith}
-use lib.ListN.{length}
+use lib.ListN.{length, length-set}
+use borrow.Rule.Slice.PartMut.{same-len-mid}
 use Rattle.assemble.proofs.main.Statement.{statement}
 use Rattle.assemble.proofs.main.Tie as tie
 
--- the arrays keep their lengths, what is counted in them stays within, and there are no more lines than turns
-record Kept (input : List ℕ) (got at : ℕ) (line : List ℕ) (kept number : ℕ) (out : List ℕ) (filled turn : ℕ) : Type 0 where
-  input-length : length input ≡ 65536
-  input-got : got ≤ 65536
-  input-at : at ≤ got
+-- the arrays keep their lengths, and what is kept of a line stays within
+record Kept (input out errors line : List ℕ) (kept : ℕ) : Type 0 where
+  input-length : length input ≡ 2048
+  out-length : length out ≡ 32768
+  errors-length : length errors ≡ 163840
   line-length : length line ≡ 256
   line-kept : kept ≤ 256
-  out-length : length out ≡ 65536
-  out-filled : filled ≤ 65536
-  lines : number ≤ turn
 
 abbrev Inv-loop : tie.InvT-loop
-Inv-loop input₀ got₀ at₀ line₀ kept₀ number₀ out₀ filled₀ counter₀ input got at line kept number out filled counter =
-    Kept input got at line kept number out filled counter
+Inv-loop input₀ out₀ errors₀ line₀ kept₀ number₀ counter₀ input out errors line kept number counter =
+    Kept input out errors line kept
 
 abbrev μ-loop : tie.MeasureT-loop
-μ-loop input₀ got₀ at₀ line₀ kept₀ number₀ out₀ filled₀ counter₀ input got at line kept number out filled counter = 2 ^ 64 - counter
-
-large-buffer-requires : tie.Need-large-buffer-requires Inv-loop μ-loop
-large-buffer-requires c κs = tt
-
-large-buffer-requires-2 : tie.Need-large-buffer-requires-2 Inv-loop μ-loop
-large-buffer-requires-2 c κs = tt
+μ-loop input₀ out₀ errors₀ line₀ kept₀ number₀ counter₀ input out errors line kept number counter =
+    2 ^ 64 - counter
 
 loop-holds : tie.Need-loop-holds Inv-loop μ-loop
 loop-holds c = omega arith
 
-slice-aggregate-refill : tie.Need-slice-aggregate-refill Inv-loop μ-loop
-slice-aggregate-refill c = omega arith
+sub-copy : tie.Need-sub-copy Inv-loop μ-loop
+sub-copy c = omega arith
 
-refill-requires : tie.Need-refill-requires Inv-loop μ-loop
-refill-requires c κs = omega arith
+part-copy-start : tie.Need-part-copy-start Inv-loop μ-loop
+part-copy-start c = omega arith
 
-add-counter : tie.Need-add-counter Inv-loop μ-loop
-add-counter c = omega arith
+part-copy-end : tie.Need-part-copy-end Inv-loop μ-loop
+part-copy-end c = omega arith
 
-loop-less : tie.Need-loop-less Inv-loop μ-loop
-loop-less c = omega arith
+slice-aggregate-copy : tie.Need-slice-aggregate-copy Inv-loop μ-loop
+slice-aggregate-copy c = omega arith
 
-loop-again : tie.Need-loop-again Inv-loop μ-loop
-loop-again c = omega arith
+copy-requires : tie.Need-copy-requires Inv-loop μ-loop
+copy-requires c κs = omega arith
 
-array-read-byte : tie.Need-array-read-byte Inv-loop μ-loop
-array-read-byte c = omega arith
+sub-read-full : tie.Need-sub-read-full Inv-loop μ-loop
+sub-read-full c = omega arith
 
-add-at : tie.Need-add-at Inv-loop μ-loop
-add-at c = omega arith
+part-input-start : tie.Need-part-input-start Inv-loop μ-loop
+part-input-start c = omega arith
 
-slice-aggregate-keep : tie.Need-slice-aggregate-keep Inv-loop μ-loop
-slice-aggregate-keep c = omega arith
+part-input-end : tie.Need-part-input-end Inv-loop μ-loop
+part-input-end c = omega arith
 
-keep-requires : tie.Need-keep-requires Inv-loop μ-loop
-keep-requires c κs = tt
+read-full-requires : tie.Need-read-full-requires Inv-loop μ-loop
+read-full-requires c κs = tt
 
-add-counter-2 : tie.Need-add-counter-2 Inv-loop μ-loop
-add-counter-2 c = omega arith
+add-if1 : tie.Need-add-if1 Inv-loop μ-loop
+add-if1 c = omega arith
 
-loop-less-2 : tie.Need-loop-less-2 Inv-loop μ-loop
-loop-less-2 c = omega arith
+returns : tie.Need-returns Inv-loop μ-loop
+returns c = tt
 
-loop-again-2 : tie.Need-loop-again-2 Inv-loop μ-loop
-loop-again-2 c = omega arith
+add-input : tie.Need-add-input Inv-loop μ-loop
+add-input c = omega arith
 
-sub-read : tie.Need-sub-read Inv-loop μ-loop
-sub-read c = omega arith
+array-write-input : tie.Need-array-write-input Inv-loop μ-loop
+array-write-input c = omega arith
 
-part-read-start : tie.Need-part-read-start Inv-loop μ-loop
-part-read-start c = omega arith
+text-end-requires : tie.Need-text-end-requires Inv-loop μ-loop
+text-end-requires c κs = omega arith
 
-part-read-end : tie.Need-part-read-end Inv-loop μ-loop
-part-read-end c = omega arith
+sub-assemble : tie.Need-sub-assemble Inv-loop μ-loop
+sub-assemble c = omega arith
 
-read-requires : tie.Need-read-requires Inv-loop μ-loop
-read-requires c κs = tt
+part-assemble-start : tie.Need-part-assemble-start Inv-loop μ-loop
+part-assemble-start c = omega arith
 
-add-number : tie.Need-add-number Inv-loop μ-loop
-add-number c = omega arith
+part-assemble-end : tie.Need-part-assemble-end Inv-loop μ-loop
+part-assemble-end c =
+    let b = c .before .before .before in
+    let read = b .before .read-full in
+    let l = b .before .before .before .before .before .before .before .before .before .loop in
+    let copied = b .before .before .before .before .copy in
+    let size : length (copied .last .1 .0) ≡ 2048 = omega (arith, b) in
+    let back = same-len-mid (l .kept) (2047 - l .kept) (copied .last .1 .0) (read .last .1 .0) (b .input4 .given) in
+    simp length-set (omega (arith, back, size))
 
-slice-aggregate-put : tie.Need-slice-aggregate-put Inv-loop μ-loop
-slice-aggregate-put c = omega arith
+slice-aggregate-assemble : tie.Need-slice-aggregate-assemble Inv-loop μ-loop
+slice-aggregate-assemble c = omega arith
 
-put-requires : tie.Need-put-requires Inv-loop μ-loop
-put-requires c κs = omega arith
+slice-aggregate-assemble-2 : tie.Need-slice-aggregate-assemble-2 Inv-loop μ-loop
+slice-aggregate-assemble-2 c = omega arith
 
-complain-requires : tie.Need-complain-requires Inv-loop μ-loop
-complain-requires c κs = tt
-
-add-counter-3 : tie.Need-add-counter-3 Inv-loop μ-loop
-add-counter-3 c = omega arith
-
-loop-less-3 : tie.Need-loop-less-3 Inv-loop μ-loop
-loop-less-3 c = omega arith
-
-loop-again-3 : tie.Need-loop-again-3 Inv-loop μ-loop
-loop-again-3 c = omega arith
+assemble-requires : tie.Need-assemble-requires Inv-loop μ-loop
+assemble-requires c κs = tt
 
 sub-write-all : tie.Need-sub-write-all Inv-loop μ-loop
 sub-write-all c = omega arith
@@ -114,8 +105,64 @@ part-write-all-end c = omega arith
 write-all-requires : tie.Need-write-all-requires Inv-loop μ-loop
 write-all-requires c κs = tt
 
-returns : tie.Need-returns Inv-loop μ-loop
-returns c = tt
+sub-write-all-2 : tie.Need-sub-write-all-2 Inv-loop μ-loop
+sub-write-all-2 c = omega arith
+
+part-write-all-start-2 : tie.Need-part-write-all-start-2 Inv-loop μ-loop
+part-write-all-start-2 c = omega arith
+
+part-write-all-end-2 : tie.Need-part-write-all-end-2 Inv-loop μ-loop
+part-write-all-end-2 c = omega arith
+
+write-all-requires-2 : tie.Need-write-all-requires-2 Inv-loop μ-loop
+write-all-requires-2 c κs = tt
+
+sub-keep : tie.Need-sub-keep Inv-loop μ-loop
+sub-keep c = omega arith
+
+part-keep-start : tie.Need-part-keep-start Inv-loop μ-loop
+part-keep-start c = omega arith
+
+part-keep-end : tie.Need-part-keep-end Inv-loop μ-loop
+part-keep-end c =
+    let b = c .before .before .before .before .before .before .before .before .before .before .before .before .before .before .before .before in
+    let read = b .before .read-full in
+    let l = b .before .before .before .before .before .before .before .before .before .loop in
+    let copied = b .before .before .before .before .copy in
+    let size : length (copied .last .1 .0) ≡ 2048 = omega (arith, b) in
+    let back = same-len-mid (l .kept) (2047 - l .kept) (copied .last .1 .0) (read .last .1 .0) (b .input4 .given) in
+    simp length-set (omega (arith, back, size, c .before .before .before .before .before .before .before .before .before .before .before .before .before .before .text-end .ensures .1))
+
+slice-aggregate-keep : tie.Need-slice-aggregate-keep Inv-loop μ-loop
+slice-aggregate-keep c = omega arith
+
+keep-requires : tie.Need-keep-requires Inv-loop μ-loop
+keep-requires c κs = tt
+
+add-counter : tie.Need-add-counter Inv-loop μ-loop
+add-counter c = omega (arith, c .before .before .before .before .before .before .before .before .before .before .before .before .before .before .before .before .before .before .before .before .before .before .before .before .before .before .before .before)
+
+loop-less : tie.Need-loop-less Inv-loop μ-loop
+loop-less c = omega (arith, c .before .before .before .before .before .before .before .before .before .before .before .before .before .before .before .before .before .before .before .before .before .before .before .before .before .before .before .before)
+
+loop-again : tie.Need-loop-again Inv-loop μ-loop
+loop-again c =
+    let b = c .before .before .before .before .before .before .before .before .before .before .before .before .before .before .before .before .before .before .before .before in
+    let read = b .before .read-full in
+    let l = b .before .before .before .before .before .before .before .before .before .loop in
+    let copied = b .before .before .before .before .copy in
+    let size : length (copied .last .1 .0) ≡ 2048 = omega (arith, b) in
+    let back = same-len-mid (l .kept) (2047 - l .kept) (copied .last .1 .0) (read .last .1 .0) (b .input4 .given) in
+    record {
+      input-length = simp length-set (omega (arith, back, size));
+      out-length = omega (arith, b);
+      errors-length = omega (arith, b);
+      line-length = omega (arith, b);
+      line-kept = omega (arith, b);
+    }
+
+returns-2 : tie.Need-returns-2 Inv-loop μ-loop
+returns-2 c = tt
 
 pub main-spec : {M : Type 1} → statement M
 main-spec =
@@ -123,34 +170,41 @@ main-spec =
     (tie.spec
     Inv-loop
     μ-loop
-    large-buffer-requires
-    large-buffer-requires-2
     loop-holds
-    slice-aggregate-refill
-    refill-requires
-    add-counter
-    loop-less
-    loop-again
-    array-read-byte
-    add-at
-    slice-aggregate-keep
-    keep-requires
-    add-counter-2
-    loop-less-2
-    loop-again-2
-    sub-read
-    part-read-start
-    part-read-end
-    read-requires
-    add-number
-    slice-aggregate-put
-    put-requires
-    complain-requires
-    add-counter-3
-    loop-less-3
-    loop-again-3
+    sub-copy
+    part-copy-start
+    part-copy-end
+    slice-aggregate-copy
+    copy-requires
+    sub-read-full
+    part-input-start
+    part-input-end
+    read-full-requires
+    add-if1
+    returns
+    add-input
+    array-write-input
+    text-end-requires
+    sub-assemble
+    part-assemble-start
+    part-assemble-end
+    slice-aggregate-assemble
+    slice-aggregate-assemble-2
+    assemble-requires
     sub-write-all
     part-write-all-start
     part-write-all-end
     write-all-requires
-    returns)
+    sub-write-all-2
+    part-write-all-start-2
+    part-write-all-end-2
+    write-all-requires-2
+    sub-keep
+    part-keep-start
+    part-keep-end
+    slice-aggregate-keep
+    keep-requires
+    add-counter
+    loop-less
+    loop-again
+    returns-2)
