@@ -7,7 +7,7 @@ ghost use mathlib.Core.Bool.{cond};
 ghost use Prim.Native.Nat.{_+_, _<_, _≤_};
 ghost use lib.Dec.{eqb};
 
-// Where the text ends of which `kept` bytes were there and `got` are read: the line end after it counts only where nothing is read.
+// Where a text ends of which `kept` bytes were there before and `got` were read. Where none were, the line end after it is its last byte.
 fn text_end(kept: usize, got: usize) -> usize
     requires { ⌜ kept + got < 2048 ⌝ }
     ensures { λ r. ⌜ (r ≡ cond (eqb got 0) (kept + 1) (kept + got)) × (r ≤ 2048) ⌝ }

@@ -6,3 +6,4 @@ pub mod Writing
 pub mod Room
 pub mod Splitting
 pub mod Assembled
+pub mod Cutting

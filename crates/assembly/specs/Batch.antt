@@ -43,6 +43,9 @@ messagesOf number (line ∷ more) = messageOf number (readLine line) ++ messages
 abbrev pub fits : ℕ → ℕ → ℕ → ℕ → Bool
 fits n number out errors = leb (n * requestSize) out && (leb (n * messageRoom) errors && ltb (number + n) (2 ^ 64))
 
--- what is read of an input: all, or nothing where there may be no room
+-- what is read of an input: all, or nothing where there may be no room; and its lines
 abbrev pub taken : List ℕ → ℕ → ℕ → ℕ → List ℕ
 taken input number out errors = cond (fits (length input) number out errors) input []
+
+abbrev pub linesTaken : List ℕ → ℕ → ℕ → ℕ → List (List ℕ)
+linesTaken input number out errors = lines (taken input number out errors)

@@ -3,3 +3,4 @@ pub mod Number
 pub mod Line
 pub mod Message
 pub mod Batch
+pub mod Pieces

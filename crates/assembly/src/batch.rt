@@ -2,12 +2,12 @@
 use super::output;
 use super::read;
 ghost use mathlib.Core.Path.{_≡_};
-ghost use Prim.Native.Nat.{_+_, _*_, _^_, _<_, _≤_};
-ghost use lib.ListN.{length};
+ghost use Prim.Native.Nat.{_+_, _*_, _^_, _<_, _≤_, min};
+ghost use lib.ListN.{length, take};
 ghost use Rattle.assembly.specs.Text.{put};
 ghost use Rattle.assembly.specs.Line.{requestSize};
 ghost use Rattle.assembly.specs.Message.{messageRoom};
-ghost use Rattle.assembly.specs.Batch.{lines, used, requestsOf, messagesOf, fits, taken};
+ghost use Rattle.assembly.specs.Batch.{lines, used, requestsOf, messagesOf, fits, taken, linesTaken};
 
 const REQUEST: usize = 16;
 
@@ -16,7 +16,7 @@ const MESSAGE: usize = 80;
 
 const NEWLINE: u8 = b'\n';
 
-// How many bytes of the input are read, the next line's number, and how many bytes of requests and messages are written.
+// How much of an input is read, the number of the line after it, and how many bytes of requests and of messages are written.
 pub struct Done {
     pub used: usize,
     pub next: u64,
@@ -73,11 +73,11 @@ fn assemble_all(input: &[u8], number: u64, out: &mut [u8], errors: &mut [u8]) ->
 // what bad lines should have been, the first line having the number given. Where these may be too short, or 64 bits for the numbers, nothing
 // is read or written.
 pub fn assemble(input: &[u8], number: u64, out: &mut [u8], errors: &mut [u8]) -> Done
-    ensures { λ r. ⌜ (r .used ≡ used (taken (now (input .entry)) number (length (now (out .entry))) (length (now (errors .entry))))) × (r .next ≡ number + length (lines (taken (now (input .entry)) number (length (now (out .entry))) (length (now (errors .entry)))))) ⌝ }
-    ensures { λ r. ⌜ (r .requests ≡ length (requestsOf (lines (taken (now (input .entry)) number (length (now (out .entry))) (length (now (errors .entry))))))) × (r .messages ≡ length (messagesOf number (lines (taken (now (input .entry)) number (length (now (out .entry))) (length (now (errors .entry))))))) ⌝ }
+    ensures { λ r. ⌜ (r .used ≡ used (taken (now (input .entry)) number (length (now (out .entry))) (length (now (errors .entry))))) × (r .next ≡ number + length (linesTaken (now (input .entry)) number (length (now (out .entry))) (length (now (errors .entry))))) ⌝ }
+    ensures { λ r. ⌜ (r .requests ≡ length (requestsOf (linesTaken (now (input .entry)) number (length (now (out .entry))) (length (now (errors .entry)))))) × (r .messages ≡ length (messagesOf number (linesTaken (now (input .entry)) number (length (now (out .entry))) (length (now (errors .entry)))))) ⌝ }
     ensures { λ r. ⌜ (r .used ≤ length (now (input .entry))) × (r .requests ≤ length (now (out .exit))) × (r .messages ≤ length (now (errors .exit))) ⌝ }
-    ensures { λ _. ⌜ now (out .exit) ≡ put (now (out .entry)) 0 (requestsOf (lines (taken (now (input .entry)) number (length (now (out .entry))) (length (now (errors .entry)))))) ⌝ }
-    ensures { λ _. ⌜ now (errors .exit) ≡ put (now (errors .entry)) 0 (messagesOf number (lines (taken (now (input .entry)) number (length (now (out .entry))) (length (now (errors .entry)))))) ⌝ }
+    ensures { λ _. ⌜ now (out .exit) ≡ put (now (out .entry)) 0 (requestsOf (linesTaken (now (input .entry)) number (length (now (out .entry))) (length (now (errors .entry))))) ⌝ }
+    ensures { λ _. ⌜ now (errors .exit) ≡ put (now (errors .entry)) 0 (messagesOf number (linesTaken (now (input .entry)) number (length (now (out .entry))) (length (now (errors .entry))))) ⌝ }
 {
     if fits(input.len(), number, out.len(), errors.len()) {
         return assemble_all(input, number, out, errors);
@@ -88,4 +88,16 @@ pub fn assemble(input: &[u8], number: u64, out: &mut [u8], errors: &mut [u8]) ->
         requests: 0,
         messages: 0,
     }
+}
+
+// Keeps the start of a line whose end is not read yet, as far as there is room, and answers how many bytes.
+pub fn keep(start: &[u8], line: &mut [u8]) -> usize
+    ensures { λ r. ⌜ (r ≡ min (length (now (start .entry))) (length (now (line .entry)))) × (r ≤ length (now (line .exit))) ⌝ }
+    ensures { λ _. ⌜ now (line .exit) ≡ put (now (line .entry)) 0 (take (length (now (line .entry))) (now (start .entry))) ⌝ }
+{
+    if start.len() < line.len() {
+        return output::put(start, line, 0);
+    }
+    let room = line.len();
+    output::put(&start[0..room], line, 0)
 }

@@ -6,7 +6,7 @@ mod scan;
 
 pub use batch::Done;
 pub use batch::assemble;
-pub use output::keep;
+pub use batch::keep;
 ghost use mathlib.Core.Path.{_≡_};
 ghost use mathlib.Core.List.{[]};
 ghost use Prim.Native.Nat.{_%_, _<_, _≤_};
@@ -135,7 +135,7 @@ fn low(n: u32) -> u8
 }
 
 // The bytes of a request.
-pub fn encode(operation: u32, argument: u32, count: u32) -> [u8; 16]
+pub(crate) fn encode(operation: u32, argument: u32, count: u32) -> [u8; 16]
     ensures { λ r. ⌜ r ≡ requestBytes operation argument count ⌝ }
 {
     [

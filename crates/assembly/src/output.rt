@@ -2,8 +2,8 @@
 use super::Line;
 use super::encode;
 ghost use mathlib.Core.Path.{_≡_};
-ghost use Prim.Native.Nat.{_+_, _≤_, min};
-ghost use lib.ListN.{length, take};
+ghost use Prim.Native.Nat.{_+_, _≤_};
+ghost use lib.ListN.{length};
 ghost use Rattle.decimal.specs.Decimal.{width, decimal};
 ghost use Rattle.assembly.specs.Text.{put};
 ghost use Rattle.assembly.specs.Line.{requestSize, requestOf};
@@ -12,7 +12,7 @@ ghost use Rattle.assembly.specs.Message.{longest, messageRoom, said, mes
 const WIDTH: usize = 20;
 
 // Writes a text at a place, and answers the place after it.
-fn put(text: &[u8], out: &mut [u8], at: usize) -> usize
+pub(crate) fn put(text: &[u8], out: &mut [u8], at: usize) -> usize
     requires { ⌜ at + length (now text) ≤ length (now out) ⌝ }
     ensures { λ r. ⌜ r ≡ at + length (now (text .entry)) ⌝ }
     ensures { λ _. ⌜ now (out .exit) ≡ put (now (out .entry)) at (now (text .entry)) ⌝ }
@@ -91,16 +91,4 @@ pub(crate) fn message(line: Line, number: u64, out: &mut [u8], at: usize) -> usi
         Line::Nothing => at,
         Line::Request { .. } => at,
     }
-}
-
-// Keeps the start of a line whose end is not read yet, as far as there is room, and answers how many bytes.
-pub fn keep(start: &[u8], line: &mut [u8]) -> usize
-    ensures { λ r. ⌜ (r ≡ min (length (now (start .entry))) (length (now (line .entry)))) × (r ≤ length (now (line .exit))) ⌝ }
-    ensures { λ _. ⌜ now (line .exit) ≡ put (now (line .entry)) 0 (take (length (now (line .entry))) (now (start .entry))) ⌝ }
-{
-    if start.len() < line.len() {
-        return put(start, line, 0);
-    }
-    let room = line.len();
-    put(&start[0..room], line, 0)
 }

@@ -4,8 +4,8 @@ use native.Mathlib.Omega.{arith}
 use lib.ListN.{length, length-take}
 use lib.Seq.{take-all}
 use borrow.Author.Needs.{needs}
-use Rattle.assembly.proofs.output.keep.Statement.{statement}
-use Rattle.assembly.proofs.output.keep.Tie as tie
+use Rattle.assembly.proofs.batch.keep.Statement.{statement}
+use Rattle.assembly.proofs.batch.keep.Tie as tie
 
 put-requires : tie.Need-put-requires
 put-requires c κs = search needs
