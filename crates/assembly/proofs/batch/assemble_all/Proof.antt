@@ -1,5 +1,4 @@
 use Prim.Native.Nat.{_-_, _≤_}
-use mathlib.Core.Path.{_≡_, refl}
 use native.Mathlib.Omega.{arith}
 use lib.ListN.{length}
 use Rattle.assembly.proofs.Assembled.{Assembled, assembled-none, assembled-more, all-requests, all-messages, all-lines, all-used}
