@@ -74,6 +74,7 @@ sub-assemble c = omega arith
 part-assemble-start : tie.Need-part-assemble-start Inv-loop μ-loop
 part-assemble-start c = omega arith
 
+-- from here on the input is as long as before, at b a part of it that was lent is back
 part-assemble-end : tie.Need-part-assemble-end Inv-loop μ-loop
 part-assemble-end c =
     let b = c .before .before .before in
