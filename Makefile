@@ -1,4 +1,4 @@
-# make run      builds benchrun, proved, and replays the eight requests of crates/benchrun/stdin
+# make run      builds assemble and benchrun, proved, and serves the eight requests of examples/eight.txt
 # make test     the gate: proofs, must-fail edits, programs, and the tests below tests/
 # make lib      target/staticlib/libcapi.a, for C programs with include/poheldu.h
 # make fuzz     any bytes through the C interface, for FUZZ_SECONDS (60); wants clang
@@ -9,8 +9,8 @@
 FUZZ_SECONDS ?= 60
 
 run:
-	@mkdir -p target && rt check benchrun > target/run.log 2>&1 || { tail -n 20 target/run.log; exit 1; }
-	@target/bin/benchrun < crates/benchrun/stdin
+	@mkdir -p target && rt check assemble benchrun > target/run.log 2>&1 || { tail -n 20 target/run.log; exit 1; }
+	@target/bin/assemble < examples/eight.txt | target/bin/benchrun
 
 test:
 	.ci/run

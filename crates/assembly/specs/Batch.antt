@@ -1,0 +1,51 @@
+-- The lines of a text, and what they come to one after another.
+use Prim.Native.Nat.{ℕ, _+_, _-_, _*_, _^_}
+use mathlib.Core.Bool.{Bool, true, false, _&&_, cond}
+use mathlib.Core.List.{List, [], _∷_, _++_}
+use lib.ListN.{length}
+use lib.Dec.{leb, ltb, eqb}
+use Rattle.assembly.specs.Line.{readLine, requestOf, requestSize}
+use Rattle.assembly.specs.Message.{messageOf, messageRoom}
+
+abbrev pub newline : ℕ
+newline = 10
+
+-- the lines of a text that have their end, and what comes after the last; the first line has some bytes already
+unfoldable pub linesFrom : List ℕ → List ℕ → List (List ℕ)
+linesFrom line [] = []
+linesFrom line (b ∷ text) = elim (eqb b newline) [ true ↦ line ∷ linesFrom [] text | false ↦ linesFrom (line ++ (b ∷ [])) text ]
+
+unfoldable pub restFrom : List ℕ → List ℕ → List ℕ
+restFrom line [] = line
+restFrom line (b ∷ text) = elim (eqb b newline) [ true ↦ restFrom [] text | false ↦ restFrom (line ++ (b ∷ [])) text ]
+
+abbrev pub lines : List ℕ → List (List ℕ)
+lines text = linesFrom [] text
+
+abbrev pub rest : List ℕ → List ℕ
+rest text = restFrom [] text
+
+-- how many bytes the lines have that have their end
+abbrev pub used : List ℕ → ℕ
+used text = length text - length (rest text)
+
+-- the requests that lines ask for
+unfoldable pub requestsOf : List (List ℕ) → List ℕ
+requestsOf [] = []
+requestsOf (line ∷ more) = requestOf (readLine line) ++ requestsOf more
+
+-- what is said of lines, numbered from a number on
+unfoldable pub messagesOf : ℕ → List (List ℕ) → List ℕ
+messagesOf number [] = []
+messagesOf number (line ∷ more) = messageOf number (readLine line) ++ messagesOf (number + 1) more
+
+-- whether there is room for what n bytes of lines come to, and for the lines' numbers in 64 bits
+abbrev pub fits : ℕ → ℕ → ℕ → ℕ → Bool
+fits n number out errors = leb (n * requestSize) out && (leb (n * messageRoom) errors && ltb (number + n) (2 ^ 64))
+
+-- what is read of an input: all, or nothing where there may be no room; and its lines
+abbrev pub taken : List ℕ → ℕ → ℕ → ℕ → List ℕ
+taken input number out errors = cond (fits (length input) number out errors) input []
+
+abbrev pub linesTaken : List ℕ → ℕ → ℕ → ℕ → List (List ℕ)
+linesTaken input number out errors = lines (taken input number out errors)
