@@ -5,12 +5,12 @@ use mathlib.Core.Path.{_≡_, refl, sym, _∙_}
 use mathlib.Core.List.{List, [], _++_, append-assoc, append-nil}
 use lib.ListN.{length, take, drop, length-append, length-drop}
 use Rattle.bytes.specs.Bytes.{slice, indexOf}
-use Rattle.assembly.specs.Text.{put}
+use Rattle.writing.specs.Overwrite.{overwrite}
 use Rattle.assembly.specs.Line.{readLine, requestOf, requestSize}
 use Rattle.assembly.specs.Message.{messageOf, messageRoom}
 use Rattle.assembly.specs.Batch.{newline, lines, rest, used, requestsOf, messagesOf}
 use Rattle.assembly.specs.declared.Line.{Line}
-use Rattle.assembly.proofs.Writing.{Wrote, wrote-then, wrote-length}
+use Rattle.writing.proofs.Writing.{Wrote, wrote-then, wrote-length}
 use Rattle.assembly.proofs.Splitting.{line-found, rest-found, no-line, no-more}
 
 -- the lines before `at` are read, and their requests and messages written; the next line has the number `next` and ends at `end`
@@ -65,8 +65,8 @@ module _ {input : List ℕ} {number : ℕ} {out₀ errors₀ : List ℕ} where
 
     -- one line more is read
     pub assembled-more : end < length input → {line : Line} {r m last : ℕ} {out₁ errors₁ : List ℕ} → line ≡ readLine (take (end - at) (drop at input))
-        → r ≡ filled + length (requestOf line) → r ≤ filled + requestSize → out₁ ≡ put out filled (requestOf line)
-        → m ≡ said + length (messageOf next line) → m ≤ said + messageRoom → errors₁ ≡ put errors said (messageOf next line)
+        → r ≡ filled + length (requestOf line) → r ≤ filled + requestSize → out₁ ≡ overwrite out filled (requestOf line)
+        → m ≡ said + length (messageOf next line) → m ≤ said + messageRoom → errors₁ ≡ overwrite errors said (messageOf next line)
         → last ≡ end + 1 + indexOf newline (slice (end + 1) (length input) input) → last ≤ length input
         → Assembled input number out₀ errors₀ out₁ errors₁ (end + 1) (next + 1) r m last
     unfolding requestsOf messagesOf

@@ -4,7 +4,7 @@ use Prim.Native.Char.{code}
 use Prim.Native.String.{String, [], _∷_}
 use mathlib.Core.Bool.{not}
 use mathlib.Core.List as list
-use mathlib.Core.List.{List, _++_}
+use mathlib.Core.List.{List}
 use lib.ListN.{length, take, drop, getD}
 use lib.Dec.{eqb}
 use Rattle.search.specs.First.{first}
@@ -32,7 +32,3 @@ wordEnd text a = find text (skip text a) space
 -- the next word from place a on; empty where only spaces are left
 unfoldable pub word : List ℕ → ℕ → List ℕ
 word text a = take (wordEnd text a - skip text a) (drop (skip text a) text)
-
--- the bytes of a buffer with a text in place of those from a on
-abbrev pub put : List ℕ → ℕ → List ℕ → List ℕ
-put buffer a text = take a buffer ++ (text ++ drop (length text) (drop a buffer))

@@ -4,7 +4,7 @@ use super::read;
 ghost use mathlib.Core.Path.{_≡_};
 ghost use Prim.Native.Nat.{_+_, _*_, _^_, _<_, _≤_, min};
 ghost use lib.ListN.{length, take};
-ghost use Rattle.assembly.specs.Text.{put};
+ghost use Rattle.writing.specs.Overwrite.{overwrite};
 ghost use Rattle.assembly.specs.Line.{requestSize};
 ghost use Rattle.assembly.specs.Message.{messageRoom};
 ghost use Rattle.assembly.specs.Batch.{lines, used, requestsOf, messagesOf, fits, taken, linesTaken};
@@ -45,8 +45,8 @@ fn assemble_all(input: &[u8], number: u64, out: &mut [u8], errors: &mut [u8]) ->
     ensures { λ r. ⌜ (r .used ≡ used (now (input .entry))) × (r .next ≡ number + length (lines (now (input .entry)))) ⌝ }
     ensures { λ r. ⌜ (r .requests ≡ length (requestsOf (lines (now (input .entry))))) × (r .messages ≡ length (messagesOf number (lines (now (input .entry))))) ⌝ }
     ensures { λ r. ⌜ (r .used ≤ length (now (input .entry))) × (r .requests ≤ length (now (out .exit))) × (r .messages ≤ length (now (errors .exit))) ⌝ }
-    ensures { λ _. ⌜ now (out .exit) ≡ put (now (out .entry)) 0 (requestsOf (lines (now (input .entry)))) ⌝ }
-    ensures { λ _. ⌜ now (errors .exit) ≡ put (now (errors .entry)) 0 (messagesOf number (lines (now (input .entry)))) ⌝ }
+    ensures { λ _. ⌜ now (out .exit) ≡ overwrite (now (out .entry)) 0 (requestsOf (lines (now (input .entry)))) ⌝ }
+    ensures { λ _. ⌜ now (errors .exit) ≡ overwrite (now (errors .entry)) 0 (messagesOf number (lines (now (input .entry)))) ⌝ }
 {
     let mut used: usize = 0;
     let mut next = number;
@@ -76,8 +76,8 @@ pub fn assemble(input: &[u8], number: u64, out: &mut [u8], errors: &mut [u8]) ->
     ensures { λ r. ⌜ (r .used ≡ used (taken (now (input .entry)) number (length (now (out .entry))) (length (now (errors .entry))))) × (r .next ≡ number + length (linesTaken (now (input .entry)) number (length (now (out .entry))) (length (now (errors .entry))))) ⌝ }
     ensures { λ r. ⌜ (r .requests ≡ length (requestsOf (linesTaken (now (input .entry)) number (length (now (out .entry))) (length (now (errors .entry)))))) × (r .messages ≡ length (messagesOf number (linesTaken (now (input .entry)) number (length (now (out .entry))) (length (now (errors .entry)))))) ⌝ }
     ensures { λ r. ⌜ (r .used ≤ length (now (input .entry))) × (r .requests ≤ length (now (out .exit))) × (r .messages ≤ length (now (errors .exit))) ⌝ }
-    ensures { λ _. ⌜ now (out .exit) ≡ put (now (out .entry)) 0 (requestsOf (linesTaken (now (input .entry)) number (length (now (out .entry))) (length (now (errors .entry))))) ⌝ }
-    ensures { λ _. ⌜ now (errors .exit) ≡ put (now (errors .entry)) 0 (messagesOf number (linesTaken (now (input .entry)) number (length (now (out .entry))) (length (now (errors .entry))))) ⌝ }
+    ensures { λ _. ⌜ now (out .exit) ≡ overwrite (now (out .entry)) 0 (requestsOf (linesTaken (now (input .entry)) number (length (now (out .entry))) (length (now (errors .entry))))) ⌝ }
+    ensures { λ _. ⌜ now (errors .exit) ≡ overwrite (now (errors .entry)) 0 (messagesOf number (linesTaken (now (input .entry)) number (length (now (out .entry))) (length (now (errors .entry))))) ⌝ }
 {
     if fits(input.len(), number, out.len(), errors.len()) {
         return assemble_all(input, number, out, errors);
@@ -93,7 +93,7 @@ pub fn assemble(input: &[u8], number: u64, out: &mut [u8], errors: &mut [u8]) ->
 // Keeps the start of a line whose end is not read yet, as far as there is room, and answers how many bytes.
 pub fn keep(start: &[u8], line: &mut [u8]) -> usize
     ensures { λ r. ⌜ (r ≡ min (length (now (start .entry))) (length (now (line .entry)))) × (r ≤ length (now (line .exit))) ⌝ }
-    ensures { λ _. ⌜ now (line .exit) ≡ put (now (line .entry)) 0 (take (length (now (line .entry))) (now (start .entry))) ⌝ }
+    ensures { λ _. ⌜ now (line .exit) ≡ overwrite (now (line .entry)) 0 (take (length (now (line .entry))) (now (start .entry))) ⌝ }
 {
     if start.len() < line.len() {
         return output::put(start, line, 0);

@@ -5,7 +5,7 @@ ghost use mathlib.Core.Path.{_≡_};
 ghost use Prim.Native.Nat.{_+_, _≤_};
 ghost use lib.ListN.{length};
 ghost use Rattle.decimal.specs.Decimal.{width, decimal};
-ghost use Rattle.assembly.specs.Text.{put};
+ghost use Rattle.writing.specs.Overwrite.{overwrite};
 ghost use Rattle.assembly.specs.Line.{requestSize, requestOf};
 ghost use Rattle.assembly.specs.Message.{longest, messageRoom, said, messageOf};
 
@@ -15,7 +15,7 @@ const WIDTH: usize = 20;
 pub(crate) fn put(text: &[u8], out: &mut [u8], at: usize) -> usize
     requires { ⌜ at + length (now text) ≤ length (now out) ⌝ }
     ensures { λ r. ⌜ r ≡ at + length (now (text .entry)) ⌝ }
-    ensures { λ _. ⌜ now (out .exit) ≡ put (now (out .entry)) at (now (text .entry)) ⌝ }
+    ensures { λ _. ⌜ now (out .exit) ≡ overwrite (now (out .entry)) at (now (text .entry)) ⌝ }
 {
     let end = at + text.len();
     bytes::copy(text, &mut out[at..end]);
@@ -25,7 +25,7 @@ pub(crate) fn put(text: &[u8], out: &mut [u8], at: usize) -> usize
 fn put_number(number: u64, out: &mut [u8], at: usize) -> usize
     requires { ⌜ at + width ≤ length (now out) ⌝ }
     ensures { λ r. ⌜ (r ≡ at + length (decimal number)) × (r ≤ at + width) ⌝ }
-    ensures { λ _. ⌜ now (out .exit) ≡ put (now (out .entry)) at (decimal number) ⌝ }
+    ensures { λ _. ⌜ now (out .exit) ≡ overwrite (now (out .entry)) at (decimal number) ⌝ }
 {
     let digits = decimal::of(number);
     let text = digits.text;
@@ -37,7 +37,7 @@ fn put_number(number: u64, out: &mut [u8], at: usize) -> usize
 fn say(number: u64, text: &[u8], out: &mut [u8], at: usize) -> usize
     requires { ⌜ (length (now text) ≤ longest) × (at + messageRoom ≤ length (now out)) ⌝ }
     ensures { λ r. ⌜ (r ≡ at + length (said number (now (text .entry)))) × (r ≤ at + messageRoom) ⌝ }
-    ensures { λ _. ⌜ now (out .exit) ≡ put (now (out .entry)) at (said number (now (text .entry))) ⌝ }
+    ensures { λ _. ⌜ now (out .exit) ≡ overwrite (now (out .entry)) at (said number (now (text .entry))) ⌝ }
 {
     let first = put(b"line ", out, at);
     let second = put_number(number, out, first);
@@ -48,7 +48,7 @@ fn say(number: u64, text: &[u8], out: &mut [u8], at: usize) -> usize
 pub(crate) fn request(line: Line, out: &mut [u8], at: usize) -> usize
     requires { ⌜ at + requestSize ≤ length (now out) ⌝ }
     ensures { λ r. ⌜ (r ≡ at + length (requestOf line)) × (r ≤ at + requestSize) ⌝ }
-    ensures { λ _. ⌜ now (out .exit) ≡ put (now (out .entry)) at (requestOf line) ⌝ }
+    ensures { λ _. ⌜ now (out .exit) ≡ overwrite (now (out .entry)) at (requestOf line) ⌝ }
 {
     match line {
         Line::Request {
@@ -71,7 +71,7 @@ pub(crate) fn request(line: Line, out: &mut [u8], at: usize) -> usize
 pub(crate) fn message(line: Line, number: u64, out: &mut [u8], at: usize) -> usize
     requires { ⌜ at + messageRoom ≤ length (now out) ⌝ }
     ensures { λ r. ⌜ (r ≡ at + length (messageOf number line)) × (r ≤ at + messageRoom) ⌝ }
-    ensures { λ _. ⌜ now (out .exit) ≡ put (now (out .entry)) at (messageOf number line) ⌝ }
+    ensures { λ _. ⌜ now (out .exit) ≡ overwrite (now (out .entry)) at (messageOf number line) ⌝ }
 {
     match line {
         Line::BadOperation => say(

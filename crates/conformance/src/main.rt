@@ -10,7 +10,7 @@ ghost use mathlib.Core.Path.{_≡_};
 ghost use Prim.Native.Nat.{_+_, _≤_, min};
 ghost use lib.ListN.{length};
 ghost use Rattle.answer.specs.Reply.{Reply};
-ghost use Rattle.rules.specs.Metadata.{overwrite};
+ghost use Rattle.writing.specs.Overwrite.{overwrite};
 ghost use Rattle.rules.specs.Open.{setup, openReply};
 ghost use Rattle.replay.specs.Batch.{batchLines, batchAfter};
 ghost use Rattle.conformance.specs.Case.{wordAt, caseOf, openedState};

@@ -13,7 +13,7 @@ use lib.Seq.{take-all, take-length, drop-length, length-take-le, take-take, take
 use Rattle.bytes.specs.Bytes.{indexOf}
 use Rattle.fill.proofs.Index.{index-le}
 use Rattle.request.specs.declared.Kind.the-variants.{String, Padded}
-use Rattle.rules.specs.Metadata.{overwrite}
+use Rattle.writing.specs.Overwrite.{overwrite}
 use Rattle.rules.specs.Object.{contentOf, clip}
 
 -- ---- filling a target from its front

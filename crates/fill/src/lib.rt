@@ -8,7 +8,7 @@ ghost use lib.ListN.{length, replicate};
 ghost use lib.Dec.{ltb};
 ghost use Rattle.bytes.specs.Bytes.{indexOf};
 ghost use Rattle.request.specs.declared.Kind.the-variants.{String, Padded};
-ghost use Rattle.rules.specs.Metadata.{overwrite};
+ghost use Rattle.writing.specs.Overwrite.{overwrite};
 ghost use Rattle.rules.specs.Object.{contentOf, clip};
 
 // The longest object.

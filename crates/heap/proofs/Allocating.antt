@@ -16,7 +16,8 @@ use Rattle.bitmap.specs.Bitmap.{setSlot, countSet}
 use Rattle.answer.specs.declared.Refusal.the-variants.{UnsupportedSize, ClassTooSmall, ClassAtCapacity}
 use Rattle.answer.specs.Reply.{served}
 use Rattle.rules.specs.declared.Found.{Found}
-use Rattle.rules.specs.Metadata.{generatorOf, fieldsOf, bitmapOf, overwrite}
+use Rattle.writing.specs.Overwrite.{overwrite}
+use Rattle.rules.specs.Metadata.{generatorOf, fieldsOf, bitmapOf}
 use Rattle.rules.specs.Outcome.{refused, reply, metadataAfter}
 use Rattle.rules.specs.Allocate.{draws, probe, taken, allocate}
 use Rattle.heap.proofs.Part.{part-bitmap, bitmap-back}

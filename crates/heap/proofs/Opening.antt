@@ -11,7 +11,8 @@ use Rattle.geometry.specs.declared.Layout.{Layout}
 use Rattle.geometry.specs.Layout.{layoutOf, header, metadataLength}
 use Rattle.answer.specs.declared.Refusal.the-variants.{ZeroSeed, HeapLength, MetadataLength}
 use Rattle.answer.specs.Reply.{Reply, served, refusedBy}
-use Rattle.rules.specs.Metadata.{fieldsOf, overwrite}
+use Rattle.writing.specs.Overwrite.{overwrite}
+use Rattle.rules.specs.Metadata.{fieldsOf}
 use Rattle.rules.specs.Open.{setup, openReply, opened}
 
 -- what is left of a run of zeros

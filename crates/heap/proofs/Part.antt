@@ -9,7 +9,8 @@ use Rattle.geometry.specs.declared.Layout.{Layout}
 use Rattle.geometry.specs.declared.Part.{Part}
 use Rattle.geometry.specs.Layout.{slots, bitmapAt, bitmapLength, metadataLength, partOf}
 use Rattle.geometry.proofs.Geometry.{bitmap-rising, bitmap-inside}
-use Rattle.rules.specs.Metadata.{bitmapOf, overwrite}
+use Rattle.writing.specs.Overwrite.{overwrite}
+use Rattle.rules.specs.Metadata.{bitmapOf}
 
 -- a part that comes back as long as it was has been overwritten
 pub part-back : (xs ys : List ℕ) (a n : ℕ) → length ys ≡ n → take a xs ++ (ys ++ drop n (drop a xs)) ≡ overwrite xs a ys

@@ -4,7 +4,8 @@ ghost use mathlib.Core.Path.{_≡_};
 ghost use Prim.Native.Nat.{_≤_};
 ghost use lib.ListN.{length};
 ghost use Rattle.geometry.specs.Layout.{header};
-ghost use Rattle.rules.specs.Metadata.{generatorOf, fieldsOf, overwrite};
+ghost use Rattle.writing.specs.Overwrite.{overwrite};
+ghost use Rattle.rules.specs.Metadata.{generatorOf, fieldsOf};
 
 pub fn generator(metadata: &[u8]) -> Generator
     requires { ⌜ header ≤ length (now metadata) ⌝ }

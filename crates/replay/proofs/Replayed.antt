@@ -9,10 +9,10 @@ use mathlib.Core.List.{List, [], _++_, append-assoc, append-nil}
 use lib.ListN.{length, take, drop, length-append, length-drop, drop-of-length-le}
 use lib.Seq.{take-all, take-length, drop-length, drop-drop}
 use borrow.Author.Tests.{lt-ltb, le-ltb, le-leb, lt-leb}
-use Rattle.rules.specs.Metadata.{overwrite}
+use Rattle.writing.specs.Overwrite.{overwrite}
 use Rattle.replay.specs.Line.{lineRoom, lineFor}
 use Rattle.replay.specs.Batch.{State, served, requests, lines, after, accepted, batchLines, batchAfter}
-use Rattle.replay.proofs.Writing.{Wrote, wrote-then, wrote-from, wrote-length}
+use Rattle.writing.proofs.Writing.{Wrote, wrote-then, wrote-from, wrote-length}
 
 module _ (room number : ℕ) (input : List ℕ) where
   -- a batch serves all requests where there is room for their lines and for their numbers

@@ -6,7 +6,7 @@ ghost use Rattle.decimal.specs.Decimal.{width, decimal};
 ghost use mathlib.Core.Bool.{cond};
 ghost use mathlib.Core.List.{[]};
 ghost use Rattle.geometry.specs.Layout.{layoutOf};
-ghost use Rattle.rules.specs.Metadata.{overwrite};
+ghost use Rattle.writing.specs.Overwrite.{overwrite};
 ghost use Rattle.rules.specs.Outcome.{metadataAfter, heapAfter};
 ghost use Rattle.rules.specs.Serve.{serve};
 ghost use Rattle.replay.specs.Line.{field, lineOf, lineRoom, hasRoom, lineFor};

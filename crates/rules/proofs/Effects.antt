@@ -15,12 +15,14 @@ use Rattle.geometry.proofs.Slots.{slots-class}
 use Rattle.bitmap.specs.Bitmap.{bit, setSlot, countSet}
 use Rattle.bitmap.proofs.Slot.{bit-past}
 use Rattle.bitmap.proofs.Change.{Turned, set-turns, clear-turns}
-use Rattle.rules.specs.Metadata.{fieldsOf, bitmapOf, overwrite}
+use Rattle.writing.specs.Overwrite.{overwrite}
+use Rattle.rules.specs.Metadata.{fieldsOf, bitmapOf}
 use Rattle.rules.specs.Open.{Setup, fresh}
 use Rattle.rules.specs.Outcome.{allocated, freed, metadataAfter}
 use Rattle.rules.specs.Allocate.{allocate}
 use Rattle.rules.specs.Object.{free}
-use Rattle.rules.proofs.Metadata.{overwrite-length, fields-written, bitmap-within, bitmap-length, bitmap-written, bitmap-other, fresh-zero}
+use Rattle.writing.proofs.Writing.{overwrite-length}
+use Rattle.rules.proofs.Metadata.{fields-written, bitmap-within, bitmap-length, bitmap-written, bitmap-other, fresh-zero}
 use Rattle.rules.proofs.Finding.{allocate-finds, free-finds}
 
 -- the bit of slot i of class c

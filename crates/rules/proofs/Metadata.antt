@@ -10,14 +10,11 @@ use Rattle.mwc.specs.declared.Generator.{Generator}
 use Rattle.geometry.specs.declared.Layout.{Layout}
 use Rattle.geometry.specs.Layout.{classes, header, bitmapAt, bitmapLength, metadataLength}
 use Rattle.geometry.proofs.Geometry.{bitmap-after, bitmap-before}
-use Rattle.rules.specs.Metadata.{fieldsOf, bitmapOf, overwrite}
+use Rattle.writing.specs.Overwrite.{overwrite}
+use Rattle.rules.specs.Metadata.{fieldsOf, bitmapOf}
 use Rattle.rules.specs.Open.{Setup, fresh}
 
 -- ---- lists
-
--- a list keeps its length where what is written lies within
-pub overwrite-length : (xs : List ℕ) (a : ℕ) (ys : List ℕ) → a + length ys ≤ length xs → length (overwrite xs a ys) ≡ length xs
-overwrite-length xs a ys h = simp (length-append, length-take, length-drop) (omega arith)
 
 module _ (xs : List ℕ) (a : ℕ) (ys : List ℕ) (h : a ≤ length xs) where
   -- what lies from the part written on

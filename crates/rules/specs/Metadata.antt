@@ -1,7 +1,7 @@
 -- The metadata (the paper's book): the generator's two halves, then the bitmaps.
 use Prim.Native.Nat.{ℕ}
 use mathlib.Core.List.{List, _++_}
-use lib.ListN.{length, take, drop}
+use lib.ListN.{take, drop}
 use Rattle.words.specs.Word.{wordOf, bytesOf}
 use Rattle.mwc.specs.declared.Generator.{Generator}
 use Rattle.geometry.specs.declared.Layout.{Layout}
@@ -17,7 +17,3 @@ fieldsOf g = bytesOf (g .z) ++ bytesOf (g .w)
 -- the part that holds a class's bitmap
 abbrev pub bitmapOf : Layout → ℕ → List ℕ → List ℕ
 bitmapOf G c m = take (bitmapLength G c) (drop (bitmapAt G c) m)
-
--- the bytes xs with ys in place of those from a on
-abbrev pub overwrite : List ℕ → ℕ → List ℕ → List ℕ
-overwrite xs a ys = take a xs ++ (ys ++ drop (length ys) (drop a xs))

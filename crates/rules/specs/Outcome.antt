@@ -8,7 +8,8 @@ use Rattle.geometry.specs.Layout.{slotSize, slots, slotStart, bitmapAt}
 use Rattle.bitmap.specs.Bitmap.{setSlot, clearSlot}
 use Rattle.answer.specs.declared.Refusal.{Refusal}
 use Rattle.answer.specs.Reply.{Reply, served, refusedBy}
-use Rattle.rules.specs.Metadata.{fieldsOf, bitmapOf, overwrite}
+use Rattle.writing.specs.Overwrite.{overwrite}
+use Rattle.rules.specs.Metadata.{fieldsOf, bitmapOf}
 
 pub data Outcome : Type 0 where
   refused : Refusal → Outcome

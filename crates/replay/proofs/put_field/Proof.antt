@@ -6,7 +6,7 @@ use lib.ListN.{length, length-append}
 use native.Mathlib.Omega.{arith}
 use Rattle.decimal.specs.Decimal.{decimal}
 use Rattle.replay.specs.Line.{field}
-use Rattle.replay.proofs.Writing.{Wrote, wrote-then, wrote-byte}
+use Rattle.writing.proofs.Writing.{Wrote, wrote-then, wrote-byte}
 use Rattle.replay.proofs.put_field.Statement.{statement}
 use Rattle.replay.proofs.put_field.Tie as tie
 

@@ -3,7 +3,7 @@ use mathlib.Core.List.{_++_}
 use lib.ListN.{length-append}
 use native.Mathlib.Omega.{arith}
 use Rattle.replay.specs.Line.{field}
-use Rattle.replay.proofs.Writing.{Wrote, wrote-then}
+use Rattle.writing.proofs.Writing.{Wrote, wrote-then}
 use Rattle.replay.proofs.put_line.Statement.{statement}
 use Rattle.replay.proofs.put_line.Tie as tie
 

@@ -6,7 +6,7 @@ use lib.ListN.{length, length-take, length-drop}
 use native.Mathlib.Nat.{le-of-eq}
 use native.Mathlib.Omega.{arith}
 use Rattle.decimal.specs.Decimal.{width, decimal}
-use Rattle.replay.proofs.Writing.{digits-length, digits-part, text-put}
+use Rattle.writing.proofs.Writing.{digits-length, digits-part, text-put}
 use Rattle.replay.proofs.put_number.Statement.{statement}
 use Rattle.replay.proofs.put_number.Tie as tie
 

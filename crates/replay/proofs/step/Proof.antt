@@ -4,7 +4,7 @@ use borrow.Author.Tests.{le-leb, lt-leb}
 use lib.ListN.{length}
 use Prim.Native.Nat.{ℕ, zero-le}
 use native.Mathlib.Omega.{arith}
-use Rattle.rules.specs.Metadata.{overwrite}
+use Rattle.writing.specs.Overwrite.{overwrite}
 use Rattle.answer.specs.Reply.{Reply}
 use Rattle.replay.specs.Line.{lineOf, lineRoom}
 use Rattle.replay.proofs.step.Statement.{statement}

@@ -1,6 +1,6 @@
 use Rattle.assembly.specs.Text.{bytes}
 use Rattle.assembly.specs.Message.{messageRoom, messageOf}
-use Rattle.assembly.proofs.Writing.{nothing-written}
+use Rattle.writing.proofs.Writing.{nothing-written}
 use borrow.Author.Needs.{needs}
 use Rattle.assembly.proofs.output.message.Statement.{statement}
 use Rattle.assembly.proofs.output.message.Tie as tie

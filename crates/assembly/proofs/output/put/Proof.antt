@@ -3,7 +3,7 @@ use mathlib.Core.Path.{_≡_, refl}
 use native.Mathlib.Omega.{arith}
 use borrow.Rule.Slice.PartMut.{midOf}
 use lib.ListN.{length, length-take, length-drop}
-use Rattle.assembly.proofs.Writing.{text-put}
+use Rattle.writing.proofs.Writing.{text-put}
 use borrow.Author.Needs.{needs}
 use Rattle.assembly.proofs.output.put.Statement.{statement}
 use Rattle.assembly.proofs.output.put.Tie as tie
@@ -32,7 +32,7 @@ returns c =
     let n = length (a .text .now) in
     let part = midOf (a .at) (a .at + n - a .at) (a .out .now) in
     let room : length part ≡ n = simp (length-take, length-drop) (omega arith) in
-    (refl, text-put (a .out .now) (a .text .now) part (a .at) (a .at + n - a .at) (c .before .before .copy .ensures .1) room (omega arith))
+    (refl, text-put (a .out .now) (a .text .now) part (a .at) (a .at + n - a .at) (c .before .before .copy .ensures .1) refl room (omega arith))
 
 pub put-spec : {M : Type 1} → statement M
 put-spec =

@@ -2,7 +2,7 @@ use mathlib.Core.Path.{sym}
 use native.Mathlib.Nat.{le-of-eq}
 use native.Mathlib.Omega.{arith}
 use Rattle.decimal.specs.Decimal.{width, decimal}
-use Rattle.assembly.proofs.Writing.{digits-length, digits-part}
+use Rattle.writing.proofs.Writing.{digits-length, digits-part}
 use borrow.Author.Needs.{needs}
 use Rattle.assembly.proofs.output.put_number.Statement.{statement}
 use Rattle.assembly.proofs.output.put_number.Tie as tie

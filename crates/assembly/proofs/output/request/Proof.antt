@@ -1,6 +1,6 @@
 use native.Mathlib.Omega.{arith}
 use Rattle.assembly.specs.Line.{requestSize, requestOf}
-use Rattle.assembly.proofs.Writing.{nothing-written}
+use Rattle.writing.proofs.Writing.{nothing-written}
 use borrow.Author.Needs.{needs}
 use Rattle.assembly.proofs.output.request.Statement.{statement}
 use Rattle.assembly.proofs.output.request.Tie as tie

@@ -4,7 +4,7 @@ use lib.ListN.{length-append}
 use Rattle.decimal.specs.Decimal.{decimal}
 use Rattle.assembly.specs.Text.{bytes}
 use Rattle.assembly.specs.Message.{said}
-use Rattle.assembly.proofs.Writing.{Wrote, wrote-then}
+use Rattle.writing.proofs.Writing.{Wrote, wrote-then}
 use borrow.Author.Needs.{needs}
 use Rattle.assembly.proofs.output.say.Statement.{statement}
 use Rattle.assembly.proofs.output.say.Tie as tie

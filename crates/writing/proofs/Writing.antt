@@ -5,10 +5,13 @@ use mathlib.Core.List.{List, [], _∷_, _++_, append-assoc, append-nil}
 use native.Mathlib.Nat.{le-of-eq}
 use native.Mathlib.Numerals.{add-one}
 use native.Mathlib.Omega.{arith}
-use lib.ListN.{length, take, drop, set, replicate, length-append, length-take, length-drop, length-replicate, drop-of-length-le}
+use lib.ListN.{length, take, drop, set, replicate, length-append, length-take, length-drop, length-replicate, drop-of-length-le, take-append-drop}
 use lib.Seq.{take-at, drop-at, drop-drop, take-all, take-length, set-split}
-use Rattle.rules.specs.Metadata.{overwrite}
-use Rattle.rules.proofs.Metadata.{overwrite-length}
+use Rattle.writing.specs.Overwrite.{overwrite}
+
+-- a list keeps its length where what is written lies within
+pub overwrite-length : (xs : List ℕ) (a : ℕ) (ys : List ℕ) → a + length ys ≤ length xs → length (overwrite xs a ys) ≡ length xs
+overwrite-length xs a ys h = simp (length-append, length-take, length-drop) (omega arith)
 
 -- two texts, the second where the first ends, are one
 module _ (xs ys zs : List ℕ) (a : ℕ) (room : a + length ys ≤ length xs) where
@@ -67,3 +70,7 @@ wrote-from out line a p h =
 -- a text written keeps the length
 pub wrote-length : {xs out ys : List ℕ} {a : ℕ} → Wrote xs out a ys → length out ≡ length xs
 wrote-length {xs} {ys = ys} {a = a} w = rw (w .bytes) (overwrite-length xs a ys (w .room))
+
+-- nothing written: the place stays, within any room
+pub nothing-written : (out : List ℕ) (at room : ℕ) → ((at ≡ at + 0) × (at ≤ at + room)) × (out ≡ overwrite out at [])
+nothing-written out at room = ((omega arith, omega arith), sym (take-append-drop at out))
