@@ -6,10 +6,10 @@ use mathlib.Core.List.{List, [], _++_, append-assoc, append-nil}
 use lib.ListN.{length, take, drop, length-append, length-drop}
 use Rattle.bytes.specs.Bytes.{slice, indexOf}
 use Rattle.writing.specs.Overwrite.{overwrite}
-use Rattle.assembly.specs.Line.{readLine, requestOf, requestSize}
+use Rattle.line.specs.Line.{readLine, requestOf, requestSize}
 use Rattle.assembly.specs.Message.{messageOf, messageRoom}
 use Rattle.assembly.specs.Batch.{newline, lines, rest, used, requestsOf, messagesOf}
-use Rattle.assembly.specs.declared.Line.{Line}
+use Rattle.line.specs.declared.Line.{Line}
 use Rattle.writing.proofs.Writing.{Wrote, wrote-then, wrote-length}
 use Rattle.assembly.proofs.Splitting.{line-found, rest-found, no-line, no-more}
 

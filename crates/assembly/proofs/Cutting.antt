@@ -8,12 +8,12 @@ use mathlib.Core.List.{List, [], _∷_, _++_, append-assoc, append-nil, map}
 use lib.ListN.{length, take, drop, length-append, length-take, take-append-drop}
 use lib.Seq.{take-all}
 use lib.Dec.{eqb}
-use Rattle.assembly.specs.Line.{readLine, requestOf}
+use Rattle.line.specs.Line.{readLine, requestOf}
 use Rattle.assembly.specs.Message.{messageOf}
 use Rattle.assembly.specs.Batch.{newline, linesFrom, restFrom, lines, rest, requestsOf, messagesOf}
 use Rattle.assembly.specs.Pieces.{longestStart, whole, linesIn}
-use Rattle.assembly.specs.declared.Line.{Line}
-use Rattle.assembly.proofs.Reading.{long-line}
+use Rattle.line.specs.declared.Line.{Line}
+use Rattle.line.proofs.Reading.{long-line}
 use Rattle.assembly.proofs.Splitting.{lines-end, lines-byte, rest-end, rest-byte}
 
 -- what two texts come to, the second after the first

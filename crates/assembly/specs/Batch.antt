@@ -4,7 +4,7 @@ use mathlib.Core.Bool.{Bool, true, false, _&&_, cond}
 use mathlib.Core.List.{List, [], _∷_, _++_}
 use lib.ListN.{length}
 use lib.Dec.{leb, ltb, eqb}
-use Rattle.assembly.specs.Line.{readLine, requestOf, requestSize}
+use Rattle.line.specs.Line.{readLine, requestOf, requestSize}
 use Rattle.assembly.specs.Message.{messageOf, messageRoom}
 
 abbrev pub newline : ℕ

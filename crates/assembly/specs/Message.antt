@@ -2,9 +2,9 @@
 use Prim.Native.Nat.{ℕ, _+_}
 use mathlib.Core.List.{List, [], _++_}
 use Rattle.decimal.specs.Decimal.{width, decimal}
-use Rattle.assembly.specs.Text.{bytes}
-use Rattle.assembly.specs.declared.Line.{Line}
-use Rattle.assembly.specs.declared.Line.the-variants.{Request, Nothing, BadOperation, BadNumber, TrailingText, TooLong}
+use Rattle.line.specs.Text.{bytes}
+use Rattle.line.specs.declared.Line.{Line}
+use Rattle.line.specs.declared.Line.the-variants.{Request, Nothing, BadOperation, BadNumber, TrailingText, TooLong}
 
 -- a text that is said of the line with a number
 unfoldable pub said : ℕ → List ℕ → List ℕ

@@ -1,159 +1,103 @@
-// Lines of text that ask for requests.
-mod batch;
-mod number;
+// All lines of an input, one after another, to requests and to messages about bad lines.
 mod output;
-mod scan;
 
-pub use batch::Done;
-pub use batch::assemble;
-pub use batch::keep;
 ghost use mathlib.Core.Path.{_≡_};
-ghost use mathlib.Core.List.{[]};
-ghost use Prim.Native.Nat.{_%_, _<_, _≤_};
-ghost use lib.ListN.{length, getD};
-ghost use Rattle.assembly.specs.Line.{same, names, operationOf, request, numbers, statement, readLine, requestBytes};
+ghost use Prim.Native.Nat.{_+_, _*_, _^_, _<_, _≤_, min};
+ghost use lib.ListN.{length, take};
+ghost use Rattle.writing.specs.Overwrite.{overwrite};
+ghost use Rattle.line.specs.Line.{requestSize};
+ghost use Rattle.assembly.specs.Message.{messageRoom};
+ghost use Rattle.assembly.specs.Batch.{lines, used, requestsOf, messagesOf, fits, taken, linesTaken};
 
-pub enum Line {
-    Request {
-        operation: u32,
-        argument: u32,
-        count: u32,
-    },
-    Nothing,
-    BadOperation,
-    BadNumber,
-    TrailingText,
-    TooLong,
+const REQUEST: usize = 16;
+
+// Room for any message.
+const MESSAGE: usize = 80;
+
+const NEWLINE: u8 = b'\n';
+
+// How much of an input is read, the number of the line after it, and how many bytes of requests and of messages are written.
+pub struct Done {
+    pub used: usize,
+    pub next: u64,
+    pub requests: usize,
+    pub messages: usize,
 }
 
-const LONGEST: usize = 255;
-
-const OPERATIONS: u32 = 6;
-
-const COUNTED: u32 = 5;
-
-fn same(a: &[u8], b: &[u8]) -> bool
-    ensures { λ r. ⌜ r ≡ same (now (a .entry)) (now (b .entry)) ⌝ }
+fn fits(len: usize, number: u64, out: usize, errors: usize) -> bool
+    ensures { λ r. ⌜ r ≡ fits len number out errors ⌝ }
 {
-    check::same(a, b)
+    if out / REQUEST < len {
+        return false;
+    }
+    if errors / MESSAGE < len {
+        return false;
+    }
+    if u64::MAX - number < len as u64 {
+        return false;
+    }
+    true
 }
 
-fn is_name(word: &[u8], operation: u32) -> bool
-    requires { ⌜ operation < 6 ⌝ }
-    ensures { λ r. ⌜ r ≡ same (now (word .entry)) (getD names operation []) ⌝ }
+// No line takes less than a byte, so there is room for all.
+fn assemble_all(input: &[u8], number: u64, out: &mut [u8], errors: &mut [u8]) -> Done
+    requires { ⌜ (length (now input) * requestSize ≤ length (now out)) × (length (now input) * messageRoom ≤ length (now errors)) × (number + length (now input) < 2 ^ 64) ⌝ }
+    ensures { λ r. ⌜ (r .used ≡ used (now (input .entry))) × (r .next ≡ number + length (lines (now (input .entry)))) ⌝ }
+    ensures { λ r. ⌜ (r .requests ≡ length (requestsOf (lines (now (input .entry))))) × (r .messages ≡ length (messagesOf number (lines (now (input .entry))))) ⌝ }
+    ensures { λ r. ⌜ (r .used ≤ length (now (input .entry))) × (r .requests ≤ length (now (out .exit))) × (r .messages ≤ length (now (errors .exit))) ⌝ }
+    ensures { λ _. ⌜ now (out .exit) ≡ overwrite (now (out .entry)) 0 (requestsOf (lines (now (input .entry)))) ⌝ }
+    ensures { λ _. ⌜ now (errors .exit) ≡ overwrite (now (errors .entry)) 0 (messagesOf number (lines (now (input .entry)))) ⌝ }
 {
-    match operation {
-        0 => same(word, b"place"),
-        1 => same(word, b"free"),
-        2 => same(word, b"measure"),
-        3 => same(word, b"copy"),
-        4 => same(word, b"text"),
-        _ => same(word, b"counted"),
+    let mut used: usize = 0;
+    let mut next = number;
+    let mut requests: usize = 0;
+    let mut messages: usize = 0;
+    let mut end = bytes::scan::find(input, 0, input.len(), NEWLINE);
+    while end < input.len() {
+        let line = line::read(&input[used..end]);
+        requests = output::request(line, out, requests);
+        messages = output::message(line, next, errors, messages);
+        next += 1;
+        used = end + 1;
+        end = bytes::scan::find(input, used, input.len(), NEWLINE);
     }
-}
-
-fn operation_of(word: &[u8]) -> u32
-    ensures { λ r. ⌜ r ≡ operationOf (now (word .entry)) ⌝ }
-{
-    let mut operation: u32 = 0;
-    while operation < OPERATIONS {
-        if is_name(word, operation) {
-            return operation;
-        }
-        operation += 1;
-    }
-    operation
-}
-
-// The request, where nothing is left of the text.
-fn request(text: &[u8], from: usize, operation: u32, argument: u64, count: u64) -> Line
-    requires { ⌜ from ≤ length (now text) ⌝ }
-    ensures { λ r. ⌜ r ≡ request (now (text .entry)) from operation argument count ⌝ }
-{
-    if number::LIMIT <= argument {
-        return Line::BadNumber;
-    }
-    if number::LIMIT <= count {
-        return Line::BadNumber;
-    }
-    if scan::skip(text, from) != text.len() {
-        return Line::TrailingText;
-    }
-    Line::Request {
-        operation,
-        argument: argument as u32,
-        count: count as u32,
+    Done {
+        used,
+        next,
+        requests,
+        messages,
     }
 }
 
-// The numbers after the operation's name.
-fn numbers(text: &[u8], from: usize, operation: u32) -> Line
-    requires { ⌜ from ≤ length (now text) ⌝ }
-    ensures { λ r. ⌜ r ≡ numbers (now (text .entry)) from operation ⌝ }
+// Reads every line of the input that has its end, writes the requests that they ask for at the front of the output, and at the front of the errors
+// what bad lines should have been, the first line having the number given. Where these may be too short, or 64 bits for the numbers, nothing
+// is read or written.
+pub fn assemble(input: &[u8], number: u64, out: &mut [u8], errors: &mut [u8]) -> Done
+    ensures { λ r. ⌜ (r .used ≡ used (taken (now (input .entry)) number (length (now (out .entry))) (length (now (errors .entry))))) × (r .next ≡ number + length (linesTaken (now (input .entry)) number (length (now (out .entry))) (length (now (errors .entry))))) ⌝ }
+    ensures { λ r. ⌜ (r .requests ≡ length (requestsOf (linesTaken (now (input .entry)) number (length (now (out .entry))) (length (now (errors .entry)))))) × (r .messages ≡ length (messagesOf number (linesTaken (now (input .entry)) number (length (now (out .entry))) (length (now (errors .entry)))))) ⌝ }
+    ensures { λ r. ⌜ (r .used ≤ length (now (input .entry))) × (r .requests ≤ length (now (out .exit))) × (r .messages ≤ length (now (errors .exit))) ⌝ }
+    ensures { λ _. ⌜ now (out .exit) ≡ overwrite (now (out .entry)) 0 (requestsOf (linesTaken (now (input .entry)) number (length (now (out .entry))) (length (now (errors .entry))))) ⌝ }
+    ensures { λ _. ⌜ now (errors .exit) ≡ overwrite (now (errors .entry)) 0 (messagesOf number (linesTaken (now (input .entry)) number (length (now (out .entry))) (length (now (errors .entry))))) ⌝ }
 {
-    let argument = number::next(text, from);
-    let second = scan::word_end(text, from);
-    if operation != COUNTED {
-        return request(text, second, operation, argument, 0);
+    if fits(input.len(), number, out.len(), errors.len()) {
+        return assemble_all(input, number, out, errors);
     }
-    let count = number::next(text, second);
-    let rest = scan::word_end(text, second);
-    request(text, rest, operation, argument, count)
+    Done {
+        used: 0,
+        next: number,
+        requests: 0,
+        messages: 0,
+    }
 }
 
-// A line without its comment.
-fn statement(text: &[u8]) -> Line
-    ensures { λ r. ⌜ r ≡ statement (now (text .entry)) ⌝ }
+// Keeps the start of a line whose end is not read yet, as far as there is room, and answers how many bytes.
+pub fn keep(start: &[u8], line: &mut [u8]) -> usize
+    ensures { λ r. ⌜ (r ≡ min (length (now (start .entry))) (length (now (line .entry)))) × (r ≤ length (now (line .exit))) ⌝ }
+    ensures { λ _. ⌜ now (line .exit) ≡ overwrite (now (line .entry)) 0 (take (length (now (line .entry))) (now (start .entry))) ⌝ }
 {
-    let start = scan::skip(text, 0);
-    if start == text.len() {
-        return Line::Nothing;
+    if start.len() < line.len() {
+        return output::put(start, line, 0);
     }
-    let end = scan::word_end(text, 0);
-    let operation = operation_of(&text[start..end]);
-    if operation == OPERATIONS {
-        return Line::BadOperation;
-    }
-    numbers(text, end, operation)
-}
-
-// What any line asks for; it is given without its line end.
-pub fn read(line: &[u8]) -> Line
-    ensures { λ r. ⌜ r ≡ readLine (now (line .entry)) ⌝ }
-{
-    if LONGEST < line.len() {
-        return Line::TooLong;
-    }
-    let end = scan::find(line, 0, b'#');
-    statement(&line[0..end])
-}
-
-fn low(n: u32) -> u8
-    ensures { λ r. ⌜ r ≡ n % 256 ⌝ }
-{
-    (n % 256) as u8
-}
-
-// The bytes of a request.
-pub(crate) fn encode(operation: u32, argument: u32, count: u32) -> [u8; 16]
-    ensures { λ r. ⌜ r ≡ requestBytes operation argument count ⌝ }
-{
-    [
-        low(operation),
-        low(operation / 256),
-        low(operation / 65536),
-        low(operation / 16777216),
-        low(argument),
-        low(argument / 256),
-        low(argument / 65536),
-        low(argument / 16777216),
-        low(count),
-        low(count / 256),
-        low(count / 65536),
-        low(count / 16777216),
-        0,
-        0,
-        0,
-        0,
-    ]
+    let room = line.len();
+    output::put(&start[0..room], line, 0)
 }

@@ -1,12 +1,11 @@
 // Requests and messages, written one after another.
-use super::Line;
-use super::encode;
+use line::Line;
 ghost use mathlib.Core.Path.{_≡_};
 ghost use Prim.Native.Nat.{_+_, _≤_};
 ghost use lib.ListN.{length};
 ghost use Rattle.decimal.specs.Decimal.{width, decimal};
 ghost use Rattle.writing.specs.Overwrite.{overwrite};
-ghost use Rattle.assembly.specs.Line.{requestSize, requestOf};
+ghost use Rattle.line.specs.Line.{requestSize, requestOf};
 ghost use Rattle.assembly.specs.Message.{longest, messageRoom, said, messageOf};
 
 const WIDTH: usize = 20;
@@ -56,7 +55,7 @@ pub(crate) fn request(line: Line, out: &mut [u8], at: usize) -> usize
             argument,
             count,
         } => {
-            let request = encode(operation, argument, count);
+            let request = line::encode(operation, argument, count);
             put(&request, out, at)
         }
         Line::Nothing => at,

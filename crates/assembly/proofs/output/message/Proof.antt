@@ -1,4 +1,4 @@
-use Rattle.assembly.specs.Text.{bytes}
+use Rattle.line.specs.Text.{bytes}
 use Rattle.assembly.specs.Message.{messageRoom, messageOf}
 use Rattle.writing.proofs.Writing.{nothing-written}
 use borrow.Author.Needs.{needs}

@@ -1,5 +1,5 @@
 use native.Mathlib.Omega.{arith}
-use Rattle.assembly.specs.Line.{requestSize, requestOf}
+use Rattle.line.specs.Line.{requestSize, requestOf}
 use Rattle.writing.proofs.Writing.{nothing-written}
 use borrow.Author.Needs.{needs}
 use Rattle.assembly.proofs.output.request.Statement.{statement}

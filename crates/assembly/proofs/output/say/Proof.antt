@@ -2,7 +2,7 @@ use mathlib.Core.List.{_++_}
 use native.Mathlib.Omega.{arith}
 use lib.ListN.{length-append}
 use Rattle.decimal.specs.Decimal.{decimal}
-use Rattle.assembly.specs.Text.{bytes}
+use Rattle.line.specs.Text.{bytes}
 use Rattle.assembly.specs.Message.{said}
 use Rattle.writing.proofs.Writing.{Wrote, wrote-then}
 use borrow.Author.Needs.{needs}

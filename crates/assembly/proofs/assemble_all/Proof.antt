@@ -1,0 +1,94 @@
+use Prim.Native.Nat.{_-_, _≤_}
+use native.Mathlib.Omega.{arith}
+use lib.ListN.{length}
+use Rattle.assembly.proofs.Assembled.{Assembled, assembled-none, assembled-more, all-requests, all-messages, all-lines, all-used}
+use Rattle.assembly.proofs.assemble_all.Statement.{statement}
+use Rattle.assembly.proofs.assemble_all.Tie as tie
+
+abbrev Inv-loop : tie.InvT-loop
+Inv-loop input number out₀ errors₀ used₀ next₀ requests₀ messages₀ end₀ out errors used next requests messages end =
+    Assembled input number out₀ errors₀ out errors used next requests messages end
+
+abbrev μ-loop : tie.MeasureT-loop
+μ-loop input number out₀ errors₀ used₀ next₀ requests₀ messages₀ end₀ out errors used next requests messages end =
+    length input - used
+
+find-requires : tie.Need-find-requires Inv-loop μ-loop
+find-requires c κs = omega arith
+
+loop-holds : tie.Need-loop-holds Inv-loop μ-loop
+loop-holds c = assembled-none (omega arith) (omega arith) (omega arith) (c .find .ensures .0) (omega arith)
+
+sub-read : tie.Need-sub-read Inv-loop μ-loop
+sub-read c = omega arith
+
+part-read-start : tie.Need-part-read-start Inv-loop μ-loop
+part-read-start c = omega arith
+
+part-read-end : tie.Need-part-read-end Inv-loop μ-loop
+part-read-end c = omega arith
+
+read-requires : tie.Need-read-requires Inv-loop μ-loop
+read-requires c κs = tt
+
+request-requires : tie.Need-request-requires Inv-loop μ-loop
+request-requires c κs = omega arith
+
+message-requires : tie.Need-message-requires Inv-loop μ-loop
+message-requires c κs = omega arith
+
+add-next : tie.Need-add-next Inv-loop μ-loop
+add-next c = omega arith
+
+add-used : tie.Need-add-used Inv-loop μ-loop
+add-used c = omega arith
+
+find-requires-2 : tie.Need-find-requires-2 Inv-loop μ-loop
+find-requires-2 c κs = omega arith
+
+loop-less : tie.Need-loop-less Inv-loop μ-loop
+loop-less c = omega arith
+
+loop-again : tie.Need-loop-again Inv-loop μ-loop
+loop-again c =
+    let l = c .before .before .before .before .before .before .before .before .before .before .before .before .loop in
+    let q = c .before .before .before .before .before .before .before .request in
+    let m = c .before .before .before .message in
+    assembled-more (l .inv) (omega arith) (c .before .before .before .before .before .before .before .before .before .read .ensures)
+    (q .ensures .0 .0) (q .ensures .0 .1) (q .ensures .1) (m .ensures .0 .0) (m .ensures .0 .1) (m .ensures .1) (c .find2 .ensures .0) (omega arith)
+
+same-length : tie.Need-same-length Inv-loop μ-loop
+same-length c = c .before .loop .inv .out-kept
+
+same-length-2 : tie.Need-same-length-2 Inv-loop μ-loop
+same-length-2 c = c .before .loop .inv .errors-kept
+
+returns : tie.Need-returns Inv-loop μ-loop
+returns c =
+    let p = c .before .loop .inv in
+    let none : length (c .before .before .before .before .before .before .args .input .now) ≤ c .before .loop .end = omega arith in
+    rw (all-requests p none, all-messages p none)
+    ((all-used p none, all-lines p none), ((p .requests-size, p .messages-size), ((omega arith, omega arith, omega arith), (p .requests-wrote .bytes, p .messages-wrote .bytes))))
+
+pub assemble-all-spec : {M : Type 1} → statement M
+assemble-all-spec =
+    tie.close
+    (tie.spec
+    Inv-loop
+    μ-loop
+    find-requires
+    loop-holds
+    sub-read
+    part-read-start
+    part-read-end
+    read-requires
+    request-requires
+    message-requires
+    add-next
+    add-used
+    find-requires-2
+    loop-less
+    loop-again
+    same-length
+    same-length-2
+    returns)
