@@ -2,8 +2,8 @@ use Prim.Native.Nat.{_-_}
 use native.Mathlib.Omega.{arith}
 use lib.ListN.{length}
 use Rattle.vote.proofs.Blocks.{Compared, compared-none, compared-more, compared-all}
-use Rattle.vote.proofs.compare.same.Statement.{statement}
-use Rattle.vote.proofs.compare.same.Tie as tie
+use Rattle.vote.proofs.compare.folded.Statement.{statement}
+use Rattle.vote.proofs.compare.folded.Tie as tie
 
 abbrev Inv-loop : tie.InvT-loop
 Inv-loop a b differ₀ i₀ differ i = Compared a b differ i
@@ -32,8 +32,8 @@ loop-again c = compared-more (c .before .before .before .loop .inv) (omega arith
 returns : tie.Need-returns Inv-loop μ-loop
 returns c = compared-all (c .before .loop .inv) (omega arith)
 
-pub same-spec : {M : Type 1} → statement M
-same-spec =
+pub folded-spec : {M : Type 1} → statement M
+folded-spec =
     tie.close
     (tie.spec
     Inv-loop
