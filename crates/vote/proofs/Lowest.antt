@@ -1,6 +1,6 @@
 -- The lowest replica with the same block, and that two replicas agree where theirs are the same.
 use Prim.Native.Nat.{ℕ, zero, suc, _+_, _*_, _-_, _/_, _≤_, _<_}
-use native.Mathlib.Nat.{zero-add, zero-mul, sub-zero, suc-mul}
+use native.Mathlib.Nat.{zero-add, zero-mul, sub-zero, suc-mul, add-mul, mul-le-mul-right}
 use native.Mathlib.Numerals.{add-one}
 use native.Mathlib.Decide.{ℕ-discrete, decLt}
 use native.Mathlib.Omega.{arith}
@@ -14,9 +14,9 @@ use borrow.Author.Tests.{lt-ltb, le-ltb, eqb-true, eq-eqb, ne-eqb}
 use Rattle.search.specs.First.{first}
 use Rattle.search.proofs.First.{first-holds, first-same, first-range}
 use Rattle.vote.specs.Decide.{blockOf, alike, tabulate, agree, agreements}
-use Rattle.vote.specs.Groups.{matching, shared, restOf, lowestFrom, lowest, groupOf, groupsOf, instead, together}
-use Rattle.vote.proofs.Blocks.{part, part-block, alike-self, alike-equal}
-use Rattle.vote.proofs.Strides.{same-test, matching-self, shared-le, shared-take, lowest-rest}
+use Rattle.vote.specs.Groups.{matching, matchingAll, shared, restOf, lowestFrom, lowest, groupOf, groupsOf, instead, together}
+use Rattle.vote.proofs.Blocks.{part, part-block, part-length, alike-self, alike-equal}
+use Rattle.vote.proofs.Strides.{same-test, matching-thrice, matching-again, matching-self, shared-le, shared-take, lowest-rest}
 use Rattle.vote.proofs.Tables.{tabulate-at, tabulate-same, Filled, filled-to}
 
 -- ---- what all blocks share
@@ -34,9 +34,10 @@ pub record Sharing (blocks : List ℕ) (k size most start i : ℕ) : Type 0 wher
 
 module _ {blocks : List ℕ} {k size : ℕ} where
   -- replica 0 alone
-  pub sharing-none : 0 < k → Sharing blocks k size (size / 256) size 1
+  pub sharing-none : (i : ℕ) → i ≡ 1 → 0 < k → Sharing blocks k size (size / 256) size i
   unfolding shared
-  sharing-none h =
+  sharing-none i e h =
+      rw e
       record { place = omega arith; some = omega arith; within = omega arith; so-far = sym (matching-self 256 (blockOf blocks size 0) (size / 256)) }
 
   module _ {most start i : ℕ} (s : Sharing blocks k size most start i) where
@@ -56,9 +57,48 @@ module _ {blocks : List ℕ} {k size : ℕ} where
           so-far = e ∙ rw (sub-zero, add-one, zero-mul, part-block blocks start size, s .place, s .so-far);
         }
 
-  -- all replicas
-  pub sharing-all : {most start i : ℕ} → Sharing blocks k size most start i → k ≤ i → most ≡ shared blocks size k
-  sharing-all {i = i} s h = let e : i ≡ k = omega (arith, s .within) in rw e at s .so-far
+  module _ {most start i : ℕ} (s : Sharing blocks k size most start i) where
+    -- m blocks more are within the blocks
+    pub sharing-room : (m : ℕ) → i + m ≤ k → start + m * size ≤ k * size
+    sharing-room m h =
+        let r : (i + m) * size ≤ k * size = mul-le-mul-right size h in
+        omega (arith, s .place, add-mul i m size)
+
+    -- the strides are within each block
+    pub sharing-first : size ≤ length blocks → most * 256 ≤ length (take (size - 0) (drop 0 blocks))
+    sharing-first h = rw (first-length blocks size h) (sharing-fits s)
+
+    pub sharing-part : (at : ℕ) → at + size ≤ length blocks → most * 256 ≤ length (part blocks at size)
+    sharing-part at h = rw (part-length blocks at size h) (sharing-fits s)
+
+    -- two replicas more, and three
+    sharing-two : {next : ℕ} → i + 2 ≤ k
+        → next ≡ matching 256 (take (size - 0) (drop 0 blocks)) (part blocks (start + size) size) (matching 256 (take (size - 0) (drop 0 blocks)) (part blocks start size) most)
+        → Sharing blocks k size next (start + size + size) (i + 1 + 1)
+    sharing-two h e = sharing-more (sharing-more s (omega arith) refl) (omega arith) e
+
+    pub sharing-three : {next : ℕ} (j : ℕ) → j ≡ i + 1 + 1 + 1 → j ≤ k
+        → next ≡ matchingAll 256 (take (size - 0) (drop 0 blocks)) (part blocks start size) (part blocks (start + size) size) (part blocks (start + size + size) size) most
+        → Sharing blocks k size next (start + size + size + size) j
+    sharing-three j q h e = rw q (sharing-more (sharing-two (omega arith) refl) (omega arith) e)
+
+    -- none is left, or one, or two
+    pub sharing-all : k ≤ i → most ≡ shared blocks size k
+    sharing-all h = let e : i ≡ k = omega (arith, s .within) in rw e at s .so-far
+
+    pub sharing-last : {r : ℕ} → i + 1 ≡ k
+        → r ≡ matchingAll 256 (take (size - 0) (drop 0 blocks)) (part blocks start size) (part blocks start size) (part blocks start size) most
+        → r ≡ shared blocks size k
+    sharing-last h e =
+        rw h
+        at (sharing-more s (omega arith) (e ∙ matching-thrice 256 (take (size - 0) (drop 0 blocks)) (part blocks start size) most) .so-far)
+
+    pub sharing-last-two : {r : ℕ} → i + 1 + 1 ≡ k
+        → r ≡ matchingAll 256 (take (size - 0) (drop 0 blocks)) (part blocks start size) (part blocks (start + size) size) (part blocks (start + size) size) most
+        → r ≡ shared blocks size k
+    sharing-last-two h e =
+        rw h
+        at (sharing-two (omega arith) (e ∙ matching-again 256 (take (size - 0) (drop 0 blocks)) (part blocks (start + size) size) _) .so-far)
 
 -- ---- what is left of a block
 

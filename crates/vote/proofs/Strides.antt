@@ -4,7 +4,7 @@ use native.Mathlib.Nat.{div-mul-le-self, div-add-mod', mod-lt, zero-add, zero-mu
 use native.Mathlib.Decide.{ℕ-discrete}
 use native.Mathlib.Omega.{arith}
 use mathlib.Core.Path.{_≡_, refl, sym, ap, ap₂, _∙_}
-use mathlib.Core.Bool.{Bool, true, false, true≢false, not}
+use mathlib.Core.Bool.{Bool, true, false, true≢false, not, _&&_, _||_}
 use mathlib.Core.List.{List, [], _∷_, _++_}
 use lib.ListN.{length, take, drop, take-append-drop, length-drop}
 use lib.Seq.{take-all, take-nil, take-take, take-add, drop-drop}
@@ -12,9 +12,9 @@ use borrow.Author.Tests.{not-false}
 use Rattle.search.specs.First.{first}
 use Rattle.search.proofs.First.{first-range, first-passes, first-before}
 use Rattle.vote.specs.Decide.{blockOf, alike}
-use Rattle.vote.specs.Groups.{strideOf, differ, matching, shared, restOf, lowestFrom, lowest}
-use Rattle.vote.proofs.Blocks.{part, part-block, alike-self, alike-equal}
-use Rattle.vote.proofs.Search.{first-agree, first-end}
+use Rattle.vote.specs.Groups.{strideOf, differ, matching, allAlike, matchingAll, shared, restOf, lowestFrom, lowest}
+use Rattle.vote.proofs.Blocks.{part, part-block, alike-thrice, alike-self, alike-equal}
+use Rattle.vote.proofs.Search.{first-agree, first-end, first-or}
 
 -- two tests are one where each follows from the other
 pub same-test : (s t : Bool) → (s ≡ true → t ≡ true) → (t ≡ true → s ≡ true) → s ≡ t
@@ -50,10 +50,6 @@ alike-rest n a b e =
 -- ---- two blocks
 
 module _ (stride : ℕ) (a b : List ℕ) where
-  -- the code compares the n-th strides
-  pub stride-differ : (at n : ℕ) {t : Bool} → at ≡ n * stride → alike (part a at stride) (part b at stride) ≡ t → differ stride a b n ≡ not t
-  stride-differ at n e h = rw (← e, ← part-block a at stride, ← part-block b at stride, h)
-
   -- no more match than are looked at
   pub matching-le : (most : ℕ) → matching stride a b most ≤ most
   matching-le most = omega (arith, first-range (differ stride a b) 0 most)
@@ -76,6 +72,40 @@ module _ (stride : ℕ) (a b : List ℕ) where
       flip true e = sym e
       flip false e = refl
 
+-- the code compares the n-th strides of four blocks
+module _ (stride : ℕ) (a b c d : List ℕ) where
+  abbrev pub differAll : ℕ → Bool
+  differAll n = not (allAlike (strideOf stride a n) (strideOf stride b n) (strideOf stride c n) (strideOf stride d n))
+
+  pub stride-differ : (at n : ℕ) {r t : Bool} → at ≡ n * stride
+      → r ≡ allAlike (part a at stride) (part b at stride) (part c at stride) (part d at stride) → r ≡ t → differAll n ≡ not t
+  stride-differ at n e f h =
+      rw (← e, ← part-block a at stride, ← part-block b at stride, ← part-block c at stride, ← part-block d at stride, ← f, h)
+
+  -- which is to compare them two by two
+  pub matching-all : (most : ℕ) → first differAll 0 most ≡ matchingAll stride a b c d most
+  matching-all most =
+      first-agree differAll (λ n. differ stride a b n || (differ stride a c n || differ stride a d n)) 0 most (λ n l. apart (alike (strideOf stride a n) (strideOf stride b n)) (alike (strideOf stride a n) (strideOf stride c n)) (alike (strideOf stride a n) (strideOf stride d n)))
+      ∙ first-or (differ stride a b) (λ n. differ stride a c n || differ stride a d n) most
+      ∙ first-or (differ stride a c) (differ stride a d) (matching stride a b most)
+    where
+      apart : (s t u : Bool) → not (s && (t && u)) ≡ not s || (not t || not u)
+      apart true true u = refl
+      apart true false u = refl
+      apart false t u = refl
+
+-- to compare again changes nothing
+pub matching-again : (stride : ℕ) (a b : List ℕ) (most : ℕ) → matching stride a b (matching stride a b most) ≡ matching stride a b most
+matching-again stride a b most =
+    sym (first-or (differ stride a b) (differ stride a b) most) ∙ first-agree (λ n. differ stride a b n || differ stride a b n) (differ stride a b) 0 most (λ n l. twice (differ stride a b n))
+  where
+    twice : (t : Bool) → t || t ≡ t
+    twice true = refl
+    twice false = refl
+
+pub matching-thrice : (stride : ℕ) (a b : List ℕ) (most : ℕ) → matchingAll stride a b b b most ≡ matching stride a b most
+matching-thrice stride a b most = rw (matching-again stride a b most, matching-again stride a b most)
+
 -- a block matches itself
 pub matching-self : (stride : ℕ) (a : List ℕ) (most : ℕ) → matching stride a a most ≡ most
 matching-self stride a most =
@@ -96,6 +126,19 @@ strides-fit n stride = omega (arith, div-mul-le-self (n - 1) stride)
 
 pub strides-reach : (n stride : ℕ) → 0 < stride → n - stride ≤ (n - 1) / stride * stride
 strides-reach n stride h = omega (arith, div-add-mod' (n - 1) stride, mod-lt (n - 1) {m = stride} h)
+
+-- blocks compared by strides: fewer match, or the last stride decides
+module _ (a b : List ℕ) (stride most : ℕ) {m : ℕ} (e : m ≡ matchingAll stride a b b b most) where
+  pub strided-less : m < most → false ≡ alike a b
+  strided-less h = sym (matching-less stride a b most (rw (e, matching-thrice stride a b most) at h))
+
+  pub strided-last : {r : Bool} (last : ℕ) → most ≤ m → length a ≡ length b → last ≤ most * stride
+      → let rest : List ℕ → List ℕ = λ x. take (length a - last) (drop last x) in
+      r ≡ allAlike (rest a) (rest b) (rest b) (rest b) → r ≡ alike a b
+  strided-last last h l k f =
+      f
+      ∙ alike-thrice (take (length a - last) (drop last a)) (take (length a - last) (drop last b))
+      ∙ last-alike a b last (most * stride) l (matching-take stride a b most most (rw (e, matching-thrice stride a b most) at h)) k
 
 -- ---- all blocks
 

@@ -22,6 +22,13 @@ differ stride a b n = not (alike (strideOf stride a n) (strideOf stride b n))
 abbrev pub matching : ℕ → List ℕ → List ℕ → ℕ → ℕ
 matching stride a b most = first (differ stride a b) 0 most
 
+-- the same of a block and three others
+abbrev pub allAlike : List ℕ → List ℕ → List ℕ → List ℕ → Bool
+allAlike a b c d = alike a b && (alike a c && alike a d)
+
+abbrev pub matchingAll : ℕ → List ℕ → List ℕ → List ℕ → List ℕ → ℕ → ℕ
+matchingAll stride a b c d most = matching stride a d (matching stride a c (matching stride a b most))
+
 -- how many strides of 256 bytes from the first on are the same in the first k replicas
 unfoldable pub shared : List ℕ → ℕ → ℕ → ℕ
 shared blocks size zero = size / 256

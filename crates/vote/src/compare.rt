@@ -3,37 +3,38 @@ ghost use mathlib.Core.Path.{_≡_};
 ghost use Prim.Native.Nat.{_+_, _*_, _/_, _≤_, _<_};
 ghost use lib.ListN.{length, getD};
 ghost use Rattle.vote.specs.Decide.{alike, tabulate, agreements};
-ghost use Rattle.vote.specs.Groups.{matching, shared, lowestFrom, instead, groupsOf, together};
+ghost use Rattle.vote.specs.Groups.{allAlike, matchingAll, shared, lowestFrom, instead, groupsOf, together};
 
 // Blocks are compared a stride at a time; a block under a stride, by shorter ones.
 const STRIDE: usize = 256;
 
 const SHORT_STRIDE: usize = 16;
 
-// Whether two blocks hold the same bytes. It has no early exit, so that it is vector code, without a loop where the length is known.
-fn folded(a: &[u8], b: &[u8]) -> bool
-    requires { ⌜ length (now a) ≡ length (now b) ⌝ }
-    ensures { λ r. ⌜ r ≡ alike (now (a .entry)) (now (b .entry)) ⌝ }
+// Whether three blocks hold the bytes of the first. It has no early exit, so that it is vector code, without a loop where the length is known;
+// and it reads the first once for three. Where a block is passed twice the compiler compares it once.
+fn folded(a: &[u8], b: &[u8], c: &[u8], d: &[u8]) -> bool
+    requires { ⌜ (length (now a) ≡ length (now b)) × (length (now a) ≡ length (now c)) × (length (now a) ≡ length (now d)) ⌝ }
+    ensures { λ r. ⌜ r ≡ allAlike (now (a .entry)) (now (b .entry)) (now (c .entry)) (now (d .entry)) ⌝ }
 {
     let mut differ: u8 = 0;
     let mut i = 0;
     while i < a.len() {
-        differ |= a[i] ^ b[i];
+        differ |= a[i] ^ b[i] | a[i] ^ c[i] | a[i] ^ d[i];
         i += 1;
     }
     differ == 0
 }
 
-// How many strides from the first on are the same in two blocks, of `most`.
-fn matching(a: &[u8], b: &[u8], stride: usize, most: usize) -> usize
-    requires { ⌜ (most * stride ≤ length (now a)) × (most * stride ≤ length (now b)) ⌝ }
-    ensures { λ r. ⌜ r ≡ matching stride (now (a .entry)) (now (b .entry)) most ⌝ }
+// How many strides from the first on are the same in four blocks, of `most`.
+fn matching(a: &[u8], b: &[u8], c: &[u8], d: &[u8], stride: usize, most: usize) -> usize
+    requires { ⌜ (most * stride ≤ length (now a)) × (most * stride ≤ length (now b)) × (most * stride ≤ length (now c)) × (most * stride ≤ length (now d)) ⌝ }
+    ensures { λ r. ⌜ r ≡ matchingAll stride (now (a .entry)) (now (b .entry)) (now (c .entry)) (now (d .entry)) most ⌝ }
 {
     let mut at: usize = 0;
     let mut n: usize = 0;
     while n < most {
         let next = at + stride;
-        if folded(&a[at..next], &b[at..next]) {
+        if folded(&a[at..next], &b[at..next], &c[at..next], &d[at..next]) {
             at = next;
             n += 1;
         } else {
@@ -50,11 +51,12 @@ fn strided(a: &[u8], b: &[u8], stride: usize) -> bool
 {
     let end = a.len();
     let most = (end - 1) / stride;
-    if matching(a, b, stride, most) < most {
+    if matching(a, b, b, b, stride, most) < most {
         return false;
     }
     let last = end - stride;
-    folded(&a[last..end], &b[last..end])
+    let rest = &b[last..end];
+    folded(&a[last..end], rest, rest, rest)
 }
 
 fn same(a: &[u8], b: &[u8]) -> bool
@@ -62,7 +64,7 @@ fn same(a: &[u8], b: &[u8]) -> bool
     ensures { λ r. ⌜ r ≡ alike (now (a .entry)) (now (b .entry)) ⌝ }
 {
     if a.len() < SHORT_STRIDE {
-        return folded(a, b);
+        return folded(a, b, b, b);
     }
     if a.len() < STRIDE {
         return strided(a, b, SHORT_STRIDE);
@@ -78,14 +80,33 @@ fn shared(blocks: &[u8], replicas: usize, block_len: usize) -> usize
     let first = &blocks[0..block_len];
     let mut most = block_len / STRIDE;
     let mut start: usize = block_len;
-    let mut i: usize = 1;
-    while i < replicas {
-        let end = start + block_len;
-        most = matching(first, &blocks[start..end], STRIDE, most);
-        start = end;
-        i += 1;
+    let mut left = replicas - 1;
+    while 3 <= left {
+        let b = start + block_len;
+        let c = b + block_len;
+        let d = c + block_len;
+        most = matching(
+            first,
+            &blocks[start..b],
+            &blocks[b..c],
+            &blocks[c..d],
+            STRIDE,
+            most,
+        );
+        start = d;
+        left -= 3;
     }
-    most
+    if left == 0 {
+        return most;
+    }
+    let middle = start + block_len;
+    let one = &blocks[start..middle];
+    if left == 1 {
+        return matching(first, one, one, one, STRIDE, most);
+    }
+    let end = middle + block_len;
+    let two = &blocks[middle..end];
+    matching(first, one, two, two, STRIDE, most)
 }
 
 // The lowest replica that has the same bytes as this one from byte `from` on.
@@ -169,9 +190,12 @@ pub fn agreements(blocks: &[u8], replicas: usize, block_len: usize) -> [[bool; 1
     let groups = groups(blocks, replicas, block_len);
     let mut out = [[false; 16]; 16];
     let mut i: usize = 0;
-    while i < replicas {
+    // Tested at the end: were it before, the compiler would keep a way for no replicas, and copy the table.
+    loop {
         out[i] = row(groups, i);
         i += 1;
+        if replicas <= i {
+            return out;
+        }
     }
-    out
 }

@@ -1,8 +1,7 @@
-use Prim.Native.Nat.{_*_, _-_, _/_}
+use Prim.Native.Nat.{_-_, _/_}
 use native.Mathlib.Omega.{arith}
 use lib.ListN.{length}
-use mathlib.Core.Path.{sym, _∙_}
-use Rattle.vote.proofs.Strides.{matching-take, matching-less, last-alike, strides-fit, strides-reach}
+use Rattle.vote.proofs.Strides.{strides-fit, strides-reach, strided-less, strided-last}
 use borrow.Author.Needs.{needs}
 use Rattle.vote.proofs.compare.strided.Statement.{statement}
 use Rattle.vote.proofs.compare.strided.Tie as tie
@@ -15,16 +14,25 @@ div-most c = search needs
 
 matching-requires : tie.Need-matching-requires
 matching-requires c κs =
-    let a = c .before .before .args in
-    omega (arith, strides-fit (length (a .a .now)) (a .stride))
+    let x = c .before .before .args in
+    omega (arith, strides-fit (length (x .a .now)) (x .stride))
 
 returns : tie.Need-returns
 returns c =
     let x = c .before .before .before .before .args in
-    sym (matching-less (x .stride) (x .a .now) (x .b .now) ((length (x .a .now) - 1) / x .stride) (rw (c .before .matching .ensures) at (c .if1 .taken)))
+    strided-less (x .a .now) (x .b .now) (x .stride) ((length (x .a .now) - 1) / x .stride) (c .before .matching .ensures) (c .if1 .taken)
 
 sub-last : tie.Need-sub-last
 sub-last c = search needs
+
+sub-rest : tie.Need-sub-rest
+sub-rest c = search needs
+
+part-rest-start : tie.Need-part-rest-start
+part-rest-start c = search needs
+
+part-rest-end : tie.Need-part-rest-end
+part-rest-end c = search needs
 
 sub-folded : tie.Need-sub-folded
 sub-folded c = search needs
@@ -35,30 +43,24 @@ part-folded-start c = search needs
 part-folded-end : tie.Need-part-folded-end
 part-folded-end c = search needs
 
-sub-folded-2 : tie.Need-sub-folded-2
-sub-folded-2 c = search needs
-
-part-folded-start-2 : tie.Need-part-folded-start-2
-part-folded-start-2 c = search needs
-
-part-folded-end-2 : tie.Need-part-folded-end-2
-part-folded-end-2 c = search needs
-
 folded-requires : tie.Need-folded-requires
 folded-requires c κs = search needs
 
 returns-2 : tie.Need-returns-2
 returns-2 c =
     let x = c .before .before .before .before .before .before .before .args in
-    c .folded .ensures
-    ∙ last-alike
+    let end = length (x .a .now) in
+    strided-last
     (x .a .now)
     (x .b .now)
-    (length (x .a .now) - x .stride)
-    ((length (x .a .now) - 1) / x .stride * x .stride)
+    (x .stride)
+    ((end - 1) / x .stride)
+    (c .before .before .before .before .matching .ensures)
+    (end - x .stride)
+    (c .before .before .before .if1 .left)
     (omega arith)
-    (matching-take (x .stride) (x .a .now) (x .b .now) ((length (x .a .now) - 1) / x .stride) ((length (x .a .now) - 1) / x .stride) (rw (c .before .before .before .before .matching .ensures) at (c .before .before .before .if1 .left)))
-    (strides-reach (length (x .a .now)) (x .stride) (omega arith))
+    (strides-reach end (x .stride) (omega arith))
+    (c .folded .ensures)
 
 pub strided-spec : {M : Type 1} → statement M
 strided-spec =
@@ -69,11 +71,11 @@ strided-spec =
     matching-requires
     returns
     sub-last
+    sub-rest
+    part-rest-start
+    part-rest-end
     sub-folded
     part-folded-start
     part-folded-end
-    sub-folded-2
-    part-folded-start-2
-    part-folded-end-2
     folded-requires
     returns-2)
