@@ -1,18 +1,17 @@
 -- Two blocks are alike where they are equal, and comparing goes byte by byte.
-use Prim.Native.Nat.{ℕ, _+_, _*_, _-_, _≤_, _<_}
-use native.Mathlib.Nat.{add-sub-cancel-left, suc-mul, mul-le-mul-right}
-use native.Mathlib.Numerals.{add-one}
+use Prim.Native.Nat.{ℕ, suc, _+_, _*_, _-_, _≤_, _<_}
+use native.Mathlib.Nat.{sub-zero, add-zero, add-sub-cancel-left, suc-mul, mul-le-mul-right}
 use native.Mathlib.Omega.{arith}
 use mathlib.Core.Path.{_≡_, refl, _∙_}
 use mathlib.Core.Bool.{Bool, true, false, _&&_, and-true, and-false}
 use mathlib.Core.List.{List, [], _∷_}
-use lib.ListN.{length, getD, take, drop, length-take, length-drop, drop-of-length-le}
+use lib.ListN.{length, getD, take, drop, length-take, length-drop}
 use lib.Seq.{drop-cons}
 use lib.Bits.{bitOr, bitXor, or-add-and, xor-add-and, and-le-l, and-le-r, xor-self}
 use lib.Dec.{eqb}
 use borrow.Author.Tests.{eq-eqb, ne-eqb, eqb-true, eqb-false}
 use Rattle.vote.specs.Decide.{alike}
-use Rattle.vote.specs.Groups.{allAlike}
+use Rattle.vote.specs.Groups.{bytesAt, allAlike}
 
 -- the part of a slice that starts at `start` and has a block's size
 abbrev pub part : List ℕ → ℕ → ℕ → List ℕ
@@ -88,27 +87,39 @@ differ-step s x y z w p q r =
     sort true true true false = rw (and-false q, and-false p)
     sort true true true true = refl
 
--- four blocks of one length before byte i, with x no 0 where a difference was found
-pub record Compared (a b c d : List ℕ) (x i : ℕ) : Type 0 where
-  pub second : length a ≡ length b
-  pub third : length a ≡ length c
-  pub fourth : length a ≡ length d
-  pub within : i ≤ length a
-  pub so-far : allAlike a b c d ≡ eqb x 0 && allAlike (drop i a) (drop i b) (drop i c) (drop i d)
+-- the first of some bytes, and those after it
+bytes-cons : (blocks : List ℕ) (n at i : ℕ) → i < n → at + n ≤ length blocks
+    → bytesAt blocks (n - i) (at + i) ≡ getD blocks (at + i) 0 ∷ bytesAt blocks (n - (i + 1)) (at + (i + 1))
+bytes-cons blocks n at i h l =
+    let p : n - i ≡ suc (n - (i + 1)) = omega arith in
+    let q : at + (i + 1) ≡ suc (at + i) = omega arith in
+    rw (p, q, drop-cons blocks (at + i) 0 (omega arith))
 
-module _ {a b c d : List ℕ} where
+-- the n bytes at four places before byte i, with x no 0 where a difference was found
+pub record Compared (blocks : List ℕ) (n a b c d x i : ℕ) : Type 0 where
+  pub first : a + n ≤ length blocks
+  pub second : b + n ≤ length blocks
+  pub third : c + n ≤ length blocks
+  pub fourth : d + n ≤ length blocks
+  pub within : i ≤ n
+  pub so-far : allAlike blocks n a b c d ≡ eqb x 0 && allAlike blocks (n - i) (a + i) (b + i) (c + i) (d + i)
+
+module _ {blocks : List ℕ} {n a b c d : ℕ} where
   -- none compared yet
-  pub compared-none : length a ≡ length b → length a ≡ length c → length a ≡ length d → Compared a b c d 0 0
-  compared-none e f g = record { second = e; third = f; fourth = g; within = omega arith; so-far = refl }
+  pub compared-none : (a + n ≤ length blocks) × (b + n ≤ length blocks) × (c + n ≤ length blocks) × (d + n ≤ length blocks)
+      → Compared blocks n a b c d 0 0
+  compared-none h =
+      record { first = h .0; second = h .1; third = h .2; fourth = h .3; within = omega arith; so-far = rw (sub-zero, add-zero, add-zero, add-zero, add-zero) }
 
-  module _ {x i : ℕ} (s : Compared a b c d x i) where
+  module _ {x i : ℕ} (s : Compared blocks n a b c d x i) where
     -- one byte more
-    pub compared-more : i < length a
-        → let at : List ℕ → ℕ = λ l. getD l i 0 in
-        Compared a b c d (bitOr x (bitOr (bitOr (bitXor (at a) (at b)) (bitXor (at a) (at c))) (bitXor (at a) (at d)))) (i + 1)
+    pub compared-more : i < n
+        → let at : ℕ → ℕ = λ p. getD blocks (p + i) 0 in
+        Compared blocks n a b c d (bitOr x (bitOr (bitOr (bitXor (at a) (at b)) (bitXor (at a) (at c))) (bitXor (at a) (at d)))) (i + 1)
     unfolding alike
     compared-more l =
         record {
+          first = s .first;
           second = s .second;
           third = s .third;
           fourth = s .fourth;
@@ -116,26 +127,18 @@ module _ {a b c d : List ℕ} where
           so-far =
               s .so-far
               ∙ rw
-              (add-one, drop-cons a i 0, drop-cons b i 0 (omega (arith, s .second)), drop-cons c i 0 (omega (arith, s .third)), drop-cons d i 0 (omega (arith, s .fourth)))
-              (differ-step x (getD a i 0) (getD b i 0) (getD c i 0) (getD d i 0) _ _ _);
+              (bytes-cons blocks n a i l (s .first), bytes-cons blocks n b i l (s .second), bytes-cons blocks n c i l (s .third), bytes-cons blocks n d i l (s .fourth))
+              (differ-step x (getD blocks (a + i) 0) (getD blocks (b + i) 0) (getD blocks (c + i) 0) (getD blocks (d + i) 0) _ _ _);
         }
 
     -- all compared
-    pub compared-all : length a ≤ i → eqb x 0 ≡ allAlike a b c d
+    pub compared-all : n ≤ i → eqb x 0 ≡ allAlike blocks n a b c d
     unfolding alike
-    compared-all l =
-        rw (
-          s .so-far,
-          drop-of-length-le a l,
-          drop-of-length-le b {i = i} (omega (arith, s .second)),
-          drop-of-length-le c {i = i} (omega (arith, s .third)),
-          drop-of-length-le d {i = i} (omega (arith, s .fourth)),
-          and-true,
-        )
+    compared-all l = let e : n - i ≡ 0 = omega arith in rw (s .so-far, e, and-true)
 
--- a block that is compared thrice
-pub alike-thrice : (a b : List ℕ) → allAlike a b b b ≡ alike a b
-alike-thrice a b = go (alike a b)
+-- a place that is compared thrice
+pub alike-thrice : (blocks : List ℕ) (n a b : ℕ) {r : Bool} → r ≡ allAlike blocks n a b b b → r ≡ alike (bytesAt blocks n a) (bytesAt blocks n b)
+alike-thrice blocks n a b e = e ∙ go (alike (bytesAt blocks n a) (bytesAt blocks n b))
   where
     go : (t : Bool) → t && (t && t) ≡ t
     go true = refl

@@ -8,7 +8,6 @@ use mathlib.Core.Bool.{Bool, true, false, true≢false, _||_, and-false}
 use mathlib.Core.List.{List, [], _++_}
 use lib.ListN.{length, getD, take, drop}
 use lib.Seq.{take-length, take-append-seam}
-use lib.Dec.{ltb}
 use borrow.Author.Tests.{lt-ltb, le-ltb, ltb-false, eqb-true, not-false}
 use Rattle.answer.specs.declared.Refusal.the-variants.{InvalidVote, NoAgreement}
 use Rattle.vote.specs.declared.elect.Elected.{Elected}

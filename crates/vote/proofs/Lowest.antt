@@ -1,34 +1,29 @@
 -- The lowest replica with the same block, and that two replicas agree where theirs are the same.
-use Prim.Native.Nat.{ℕ, zero, suc, _+_, _*_, _-_, _/_, _≤_, _<_}
-use native.Mathlib.Nat.{zero-add, zero-mul, sub-zero, suc-mul, add-mul, mul-le-mul-right}
+use Prim.Native.Nat.{ℕ, _+_, _*_, _-_, _/_, _≤_, _<_}
+use native.Mathlib.Nat.{zero-add, zero-mul, suc-mul, add-mul, mul-le-mul-right}
 use native.Mathlib.Numerals.{add-one}
 use native.Mathlib.Decide.{ℕ-discrete, decLt}
 use native.Mathlib.Omega.{arith}
 use mathlib.Core.Path.{_≡_, refl, sym, _∙_}
 use mathlib.Core.Logic.{_≢_}
-use mathlib.Core.Bool.{Bool, true, false, _&&_, and-false}
+use mathlib.Core.Bool.{Bool, true, false, _&&_}
 use mathlib.Core.List.{List, [], _∷_}
-use lib.ListN.{length, getD, take, drop, replicate, length-take, length-drop}
+use lib.ListN.{getD, replicate}
 use lib.Dec.{ltb, eqb}
 use borrow.Author.Tests.{lt-ltb, le-ltb, eqb-true, eq-eqb, ne-eqb}
 use Rattle.search.specs.First.{first}
 use Rattle.search.proofs.First.{first-holds, first-same, first-range}
 use Rattle.vote.specs.Decide.{blockOf, alike, tabulate, agree, agreements}
-use Rattle.vote.specs.Groups.{matching, matchingAll, shared, restOf, lowestFrom, lowest, groupOf, groupsOf, instead, together}
-use Rattle.vote.proofs.Blocks.{part, part-block, part-length, alike-self, alike-equal}
-use Rattle.vote.proofs.Strides.{same-test, matching-thrice, matching-again, matching-self, shared-le, shared-take, lowest-rest}
+use Rattle.vote.specs.Groups.{bytesAt, matching, matchingAll, shared, restOf, lowest, groupOf, groupsOf, instead, together}
+use Rattle.vote.proofs.Blocks.{alike-self, alike-equal}
+use Rattle.vote.proofs.Strides.{same-test, matching-self, matching-again, matching-thrice, shared-le}
 use Rattle.vote.proofs.Tables.{tabulate-at, tabulate-same, Filled, filled-to}
 
 -- ---- what all blocks share
 
--- the part of a slice that is the first block
-pub first-length : (blocks : List ℕ) (size : ℕ) → size ≤ length blocks → length (take (size - 0) (drop 0 blocks)) ≡ size
-first-length blocks size h = simp (length-take, length-drop) (omega arith)
-
 -- the first i of k blocks were compared, and they share `most` strides
 pub record Sharing (blocks : List ℕ) (k size most start i : ℕ) : Type 0 where
   pub place : start ≡ i * size
-  pub some : 0 < i
   pub within : i ≤ k
   pub so-far : most ≡ shared blocks size i
 
@@ -37,48 +32,29 @@ module _ {blocks : List ℕ} {k size : ℕ} where
   pub sharing-none : (i : ℕ) → i ≡ 1 → 0 < k → Sharing blocks k size (size / 256) size i
   unfolding shared
   sharing-none i e h =
-      rw e
-      record { place = omega arith; some = omega arith; within = omega arith; so-far = sym (matching-self 256 (blockOf blocks size 0) (size / 256)) }
+      rw e record { place = omega arith; within = omega arith; so-far = rw zero-mul (sym (matching-self blocks 256 0 (size / 256))) }
+
+  -- one replica more
+  sharing-more : {most start i next : ℕ} → Sharing blocks k size most start i → i < k → next ≡ matching blocks 256 0 start most
+      → Sharing blocks k size next (start + size) (i + 1)
+  unfolding shared
+  sharing-more s h e =
+      record { place = rw (add-one, suc-mul, s .place); within = omega arith; so-far = e ∙ rw (add-one, s .place, s .so-far) }
 
   module _ {most start i : ℕ} (s : Sharing blocks k size most start i) where
-    -- the strides are within a block
-    pub sharing-fits : most * 256 ≤ size
-    sharing-fits = omega (arith, s .so-far, shared-le blocks size i)
-
-    -- one replica more
-    pub sharing-more : {next : ℕ} → i < k
-        → next ≡ matching 256 (take (size - 0) (drop 0 blocks)) (part blocks start size) most → Sharing blocks k size next (start + size) (i + 1)
-    unfolding shared
-    sharing-more h e =
-        record {
-          place = rw (add-one, suc-mul, s .place);
-          some = omega arith;
-          within = omega arith;
-          so-far = e ∙ rw (sub-zero, add-one, zero-mul, part-block blocks start size, s .place, s .so-far);
-        }
-
-  module _ {most start i : ℕ} (s : Sharing blocks k size most start i) where
-    -- m blocks more are within the blocks
-    pub sharing-room : (m : ℕ) → i + m ≤ k → start + m * size ≤ k * size
+    -- the strides are within each block of m more
+    pub sharing-room : (m : ℕ) → i + m ≤ k → (start + m * size ≤ k * size) × (most * 256 ≤ size)
     sharing-room m h =
         let r : (i + m) * size ≤ k * size = mul-le-mul-right size h in
-        omega (arith, s .place, add-mul i m size)
-
-    -- the strides are within each block
-    pub sharing-first : size ≤ length blocks → most * 256 ≤ length (take (size - 0) (drop 0 blocks))
-    sharing-first h = rw (first-length blocks size h) (sharing-fits s)
-
-    pub sharing-part : (at : ℕ) → at + size ≤ length blocks → most * 256 ≤ length (part blocks at size)
-    sharing-part at h = rw (part-length blocks at size h) (sharing-fits s)
+        omega (arith, s .place, add-mul i m size, s .so-far, shared-le blocks size i)
 
     -- two replicas more, and three
-    sharing-two : {next : ℕ} → i + 2 ≤ k
-        → next ≡ matching 256 (take (size - 0) (drop 0 blocks)) (part blocks (start + size) size) (matching 256 (take (size - 0) (drop 0 blocks)) (part blocks start size) most)
+    sharing-two : {next : ℕ} → i + 2 ≤ k → next ≡ matching blocks 256 0 (start + size) (matching blocks 256 0 start most)
         → Sharing blocks k size next (start + size + size) (i + 1 + 1)
     sharing-two h e = sharing-more (sharing-more s (omega arith) refl) (omega arith) e
 
     pub sharing-three : {next : ℕ} (j : ℕ) → j ≡ i + 1 + 1 + 1 → j ≤ k
-        → next ≡ matchingAll 256 (take (size - 0) (drop 0 blocks)) (part blocks start size) (part blocks (start + size) size) (part blocks (start + size + size) size) most
+        → next ≡ matchingAll blocks 256 0 start (start + size) (start + size + size) most
         → Sharing blocks k size next (start + size + size + size) j
     sharing-three j q h e = rw q (sharing-more (sharing-two (omega arith) refl) (omega arith) e)
 
@@ -86,36 +62,19 @@ module _ {blocks : List ℕ} {k size : ℕ} where
     pub sharing-all : k ≤ i → most ≡ shared blocks size k
     sharing-all h = let e : i ≡ k = omega (arith, s .within) in rw e at s .so-far
 
-    pub sharing-last : {r : ℕ} → i + 1 ≡ k
-        → r ≡ matchingAll 256 (take (size - 0) (drop 0 blocks)) (part blocks start size) (part blocks start size) (part blocks start size) most
-        → r ≡ shared blocks size k
-    sharing-last h e =
-        rw h
-        at (sharing-more s (omega arith) (e ∙ matching-thrice 256 (take (size - 0) (drop 0 blocks)) (part blocks start size) most) .so-far)
+    pub sharing-last : {r : ℕ} → i + 1 ≡ k → r ≡ matchingAll blocks 256 0 start start start most → r ≡ shared blocks size k
+    sharing-last h e = rw h at (sharing-more s (omega arith) (e ∙ matching-thrice blocks 256 0 start most) .so-far)
 
-    pub sharing-last-two : {r : ℕ} → i + 1 + 1 ≡ k
-        → r ≡ matchingAll 256 (take (size - 0) (drop 0 blocks)) (part blocks start size) (part blocks (start + size) size) (part blocks (start + size) size) most
-        → r ≡ shared blocks size k
+    pub sharing-last-two : {r : ℕ} → i + 1 + 1 ≡ k → r ≡ matchingAll blocks 256 0 start (start + size) (start + size) most → r ≡ shared blocks size k
     sharing-last-two h e =
-        rw h
-        at (sharing-two (omega arith) (e ∙ matching-again 256 (take (size - 0) (drop 0 blocks)) (part blocks (start + size) size) _) .so-far)
-
--- ---- what is left of a block
-
-module _ (blocks : List ℕ) (at size from : ℕ) where
-  -- the part of a slice that is left of a block
-  abbrev pub restPart : List ℕ
-  restPart = take (at + size - (at + from)) (drop (at + from) blocks)
-
-  -- its length
-  pub rest-length : at + size ≤ length blocks → length restPart ≡ size - from
-  rest-length h = simp (length-take, length-drop) (omega arith)
-
-  -- it is what is left of the block
-  pub rest-part : (i : ℕ) → at ≡ i * size → restPart ≡ restOf blocks size from i
-  rest-part i e = let d : at + size - (at + from) ≡ size - from = omega arith in rw (d, e)
+        rw h at (sharing-two (omega arith) (e ∙ matching-again blocks 256 0 (start + size) (matching blocks 256 0 start most)) .so-far)
 
 -- ---- groups
+
+-- the code compares what is left of two blocks
+pub rest-test : (blocks : List ℕ) (size from k at i : ℕ) {r t : Bool} → at ≡ i * size
+    → r ≡ alike (bytesAt blocks (size - from) (at + from)) (restOf blocks size from k) → r ≡ t → alike (restOf blocks size from i) (restOf blocks size from k) ≡ t
+rest-test blocks size from k at i e f h = rw (← e, ← f, h)
 
 -- a test of one entry
 pub instead-taken : (a b x : ℕ) → x ≡ a → b ≡ instead a b x
@@ -244,14 +203,3 @@ module _ (blocks : List ℕ) (k size : ℕ) where
       (λ r. tabulate (agree blocks k size r) 0 16)
       (λ r l. rw e (tabulate-same (together (groupsOf blocks k size) r) (agree blocks k size r) 0 16 (λ j m. together-agree r j (omega arith) (omega arith) (omega arith))))
       (λ r l. alone r (omega arith))
-
--- ---- comparing from what all blocks share
-
-module _ (blocks : List ℕ) (size : ℕ) where
-  -- the shared strides are within a block
-  pub shared-fits : (k : ℕ) → shared blocks size k * 256 ≤ size
-  shared-fits k = omega (arith, shared-le blocks size k)
-
-  -- the lowest with the same rest is the lowest with the same block
-  pub lowest-shared : (k i : ℕ) {n : ℕ} → i < k → n ≡ shared blocks size k → lowestFrom blocks size (n * 256) i ≡ lowest blocks size i
-  lowest-shared k i h e = rw e (lowest-rest blocks size k (shared blocks size k * 256) i (shared-fits k) h (shared-take blocks size k))

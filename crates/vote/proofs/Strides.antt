@@ -1,19 +1,19 @@
 -- Blocks that are the same at first, and comparing them from there on.
 use Prim.Native.Nat.{ℕ, zero, suc, _+_, _*_, _-_, _/_, _≤_, _<_}
-use native.Mathlib.Nat.{div-mul-le-self, div-add-mod', mod-lt, zero-add, zero-mul, suc-mul, suc-add, add-sub-of-le, mul-le-mul-right}
+use native.Mathlib.Nat.{div-mul-le-self, div-add-mod', mod-lt, zero-add, zero-mul, suc-mul, suc-add, mul-le-mul-right}
 use native.Mathlib.Decide.{ℕ-discrete}
 use native.Mathlib.Omega.{arith}
 use mathlib.Core.Path.{_≡_, refl, sym, ap, ap₂, _∙_}
-use mathlib.Core.Bool.{Bool, true, false, true≢false, not, _&&_, _||_}
+use mathlib.Core.Bool.{Bool, true, false, not, _&&_, _||_}
 use mathlib.Core.List.{List, [], _∷_, _++_}
-use lib.ListN.{length, take, drop, take-append-drop, length-drop}
-use lib.Seq.{take-all, take-nil, take-take, take-add, drop-drop}
+use lib.ListN.{take, drop, take-append-drop}
+use lib.Seq.{take-nil, take-take, take-add, drop-drop}
 use borrow.Author.Tests.{not-false}
 use Rattle.search.specs.First.{first}
 use Rattle.search.proofs.First.{first-range, first-passes, first-before}
 use Rattle.vote.specs.Decide.{blockOf, alike}
-use Rattle.vote.specs.Groups.{strideOf, differ, matching, allAlike, matchingAll, shared, restOf, lowestFrom, lowest}
-use Rattle.vote.proofs.Blocks.{part, part-block, alike-thrice, alike-self, alike-equal}
+use Rattle.vote.specs.Groups.{bytesAt, allAlike, differ, matching, matchingAll, shared, restOf, lowestFrom, lowest}
+use Rattle.vote.proofs.Blocks.{block-within, alike-thrice, alike-self, alike-equal}
 use Rattle.vote.proofs.Search.{first-agree, first-end, first-or}
 
 -- two tests are one where each follows from the other
@@ -23,7 +23,7 @@ same-test false true f g = g refl
 same-test false false f g = refl
 
 -- blocks are not alike where a part is not
-pub unlike : (part : List ℕ → List ℕ) (a b : List ℕ) → alike (part a) (part b) ≡ false → alike a b ≡ false
+unlike : (part : List ℕ → List ℕ) (a b : List ℕ) → alike (part a) (part b) ≡ false → alike a b ≡ false
 unlike part a b h = go (alike a b) refl
   where
     go : (t : Bool) → alike a b ≡ t → t ≡ false
@@ -34,7 +34,7 @@ unlike part a b h = go (alike a b) refl
     go false e = refl
 
 -- blocks that begin alike are alike where the rest is
-pub alike-rest : (n : ℕ) (a b : List ℕ) → take n a ≡ take n b → alike (drop n a) (drop n b) ≡ alike a b
+alike-rest : (n : ℕ) (a b : List ℕ) → take n a ≡ take n b → alike (drop n a) (drop n b) ≡ alike a b
 alike-rest n a b e =
     same-test
     _
@@ -47,98 +47,141 @@ alike-rest n a b e =
     let p : a ≡ b = alike-equal a b h in
     rw p (alike-self (drop n b)))
 
--- ---- two blocks
+-- ---- two places
 
-module _ (stride : ℕ) (a b : List ℕ) where
+-- bytes from byte n on, and whole strides among some bytes
+drop-take : (n m : ℕ) (xs : List ℕ) → drop n (take (n + m) xs) ≡ take m (drop n xs)
+drop-take zero m xs = rw zero-add
+drop-take (suc n) m [] = rw (take-nil m, take-nil (suc n + m))
+drop-take (suc n) m (x ∷ xs) = rw suc-add (drop-take n m xs)
+
+module _ (blocks : List ℕ) where
+  bytes-drop : (n m at : ℕ) → n ≤ m → drop n (bytesAt blocks m at) ≡ bytesAt blocks (m - n) (at + n)
+  bytes-drop n m at h =
+      let e : n + (m - n) ≡ m = omega arith in
+      rw (← drop-drop n at blocks, ← drop-take n (m - n) (drop at blocks), e)
+
+  bytes-take : (n m at : ℕ) → n ≤ m → take n (bytesAt blocks m at) ≡ bytesAt blocks n at
+  bytes-take n m at h = take-take n m (drop at blocks) h
+
+module _ (blocks : List ℕ) (stride a b : ℕ) where
   -- no more match than are looked at
-  pub matching-le : (most : ℕ) → matching stride a b most ≤ most
-  matching-le most = omega (arith, first-range (differ stride a b) 0 most)
+  matching-le : (most : ℕ) → matching blocks stride a b most ≤ most
+  matching-le most = omega (arith, first-range (differ blocks stride a b) 0 most)
 
   -- what matches is the same
-  pub matching-take : (most n : ℕ) → n ≤ matching stride a b most → take (n * stride) a ≡ take (n * stride) b
+  matching-take : (most n : ℕ) → n ≤ matching blocks stride a b most → bytesAt blocks (n * stride) a ≡ bytesAt blocks (n * stride) b
   matching-take most zero h = rw zero-mul
   matching-take most (suc n) h =
-      let e : differ stride a b n ≡ false = first-before (differ stride a b) 0 most n (omega arith) h in
-      let q : strideOf stride a n ≡ strideOf stride b n = alike-equal _ _ (not-false _ e) in
-      rw (suc-mul, take-add (n * stride) stride a, take-add (n * stride) stride b) (ap₂ _++_ (matching-take most n (omega arith)) q)
+      let e : differ blocks stride a b n ≡ false = first-before (differ blocks stride a b) 0 most n (omega arith) h in
+      let q : bytesAt blocks stride (a + n * stride) ≡ bytesAt blocks stride (b + n * stride) = alike-equal _ _ (not-false _ e) in
+      rw
+      (suc-mul, take-add (n * stride) stride (drop a blocks), take-add (n * stride) stride (drop b blocks), drop-drop (n * stride) a blocks, drop-drop (n * stride) b blocks)
+      (ap₂ _++_ (matching-take most n (omega arith)) q)
 
-  -- where fewer match the blocks differ
-  pub matching-less : (most : ℕ) → matching stride a b most < most → alike a b ≡ false
-  matching-less most h =
-      let n : ℕ = matching stride a b most in
-      unlike (λ x. strideOf stride x n) a b (flip (alike (strideOf stride a n) (strideOf stride b n)) (first-passes (differ stride a b) 0 most (omega arith)))
+  -- where fewer match, more bytes than these strides differ
+  matching-less : (most m : ℕ) → most * stride ≤ m → matching blocks stride a b most < most
+      → alike (bytesAt blocks m a) (bytesAt blocks m b) ≡ false
+  matching-less most m l h =
+      let n : ℕ = matching blocks stride a b most in
+      let room : n * stride + stride ≤ most * stride = block-within n most stride h in
+      unlike
+      (λ x. take stride (drop (n * stride) x))
+      (bytesAt blocks m a)
+      (bytesAt blocks m b)
+      (rw
+      (bytes-drop blocks (n * stride) m a (omega arith), bytes-drop blocks (n * stride) m b (omega arith), bytes-take blocks stride (m - n * stride) (a + n * stride) (omega arith), bytes-take blocks stride (m - n * stride) (b + n * stride) (omega arith))
+      (flip (alike (bytesAt blocks stride (a + n * stride)) (bytesAt blocks stride (b + n * stride))) (first-passes (differ blocks stride a b) 0 most (omega arith))))
     where
       flip : (t : Bool) → not t ≡ true → t ≡ false
       flip true e = sym e
       flip false e = refl
 
--- the code compares the n-th strides of four blocks
-module _ (stride : ℕ) (a b c d : List ℕ) where
-  abbrev pub differAll : ℕ → Bool
-  differAll n = not (allAlike (strideOf stride a n) (strideOf stride b n) (strideOf stride c n) (strideOf stride d n))
+  -- to compare again changes nothing
+  pub matching-again : (most : ℕ) → matching blocks stride a b (matching blocks stride a b most) ≡ matching blocks stride a b most
+  matching-again most =
+      sym (first-or (differ blocks stride a b) (differ blocks stride a b) most)
+      ∙ first-agree
+      (λ n. differ blocks stride a b n || differ blocks stride a b n)
+      (differ blocks stride a b)
+      0
+      most
+      (λ n l. twice (differ blocks stride a b n))
+    where
+      twice : (t : Bool) → t || t ≡ t
+      twice true = refl
+      twice false = refl
 
-  pub stride-differ : (at n : ℕ) {r t : Bool} → at ≡ n * stride
-      → r ≡ allAlike (part a at stride) (part b at stride) (part c at stride) (part d at stride) → r ≡ t → differAll n ≡ not t
-  stride-differ at n e f h =
-      rw (← e, ← part-block a at stride, ← part-block b at stride, ← part-block c at stride, ← part-block d at stride, ← f, h)
+  pub matching-thrice : (most : ℕ) → matchingAll blocks stride a b b b most ≡ matching blocks stride a b most
+  matching-thrice most = rw (matching-again most, matching-again most)
+
+-- a place matches itself
+pub matching-self : (blocks : List ℕ) (stride a most : ℕ) → matching blocks stride a a most ≡ most
+matching-self blocks stride a most = first-end (differ blocks stride a a) most (λ n. rw alike-self)
+
+-- the code compares the n-th strides at four places
+module _ (blocks : List ℕ) (stride a b c d : ℕ) where
+  abbrev pub differAll : ℕ → Bool
+  differAll n = not (allAlike blocks stride (a + n * stride) (b + n * stride) (c + n * stride) (d + n * stride))
+
+  pub stride-differ : (at n : ℕ) {r t : Bool} → at ≡ n * stride → r ≡ allAlike blocks stride (a + at) (b + at) (c + at) (d + at) → r ≡ t
+      → differAll n ≡ not t
+  stride-differ at n e f h = rw (← e, ← f, h)
 
   -- which is to compare them two by two
-  pub matching-all : (most : ℕ) → first differAll 0 most ≡ matchingAll stride a b c d most
+  pub matching-all : (most : ℕ) → first differAll 0 most ≡ matchingAll blocks stride a b c d most
   matching-all most =
-      first-agree differAll (λ n. differ stride a b n || (differ stride a c n || differ stride a d n)) 0 most (λ n l. apart (alike (strideOf stride a n) (strideOf stride b n)) (alike (strideOf stride a n) (strideOf stride c n)) (alike (strideOf stride a n) (strideOf stride d n)))
-      ∙ first-or (differ stride a b) (λ n. differ stride a c n || differ stride a d n) most
-      ∙ first-or (differ stride a c) (differ stride a d) (matching stride a b most)
+      first-agree
+      differAll
+      (λ n. differ blocks stride a b n || (differ blocks stride a c n || differ blocks stride a d n))
+      0
+      most
+      (λ n l. apart (alike (at a n) (at b n)) (alike (at a n) (at c n)) (alike (at a n) (at d n)))
+      ∙ first-or (differ blocks stride a b) (λ n. differ blocks stride a c n || differ blocks stride a d n) most
+      ∙ first-or (differ blocks stride a c) (differ blocks stride a d) (matching blocks stride a b most)
     where
+      at : ℕ → ℕ → List ℕ
+      at p n = bytesAt blocks stride (p + n * stride)
+
       apart : (s t u : Bool) → not (s && (t && u)) ≡ not s || (not t || not u)
       apart true true u = refl
       apart true false u = refl
       apart false t u = refl
 
--- to compare again changes nothing
-pub matching-again : (stride : ℕ) (a b : List ℕ) (most : ℕ) → matching stride a b (matching stride a b most) ≡ matching stride a b most
-matching-again stride a b most =
-    sym (first-or (differ stride a b) (differ stride a b) most) ∙ first-agree (λ n. differ stride a b n || differ stride a b n) (differ stride a b) 0 most (λ n l. twice (differ stride a b n))
-  where
-    twice : (t : Bool) → t || t ≡ t
-    twice true = refl
-    twice false = refl
-
-pub matching-thrice : (stride : ℕ) (a b : List ℕ) (most : ℕ) → matchingAll stride a b b b most ≡ matching stride a b most
-matching-thrice stride a b most = rw (matching-again stride a b most, matching-again stride a b most)
-
--- a block matches itself
-pub matching-self : (stride : ℕ) (a : List ℕ) (most : ℕ) → matching stride a a most ≡ most
-matching-self stride a most =
-    first-end (differ stride a a) most (λ n. rw alike-self)
-
--- the last stride decides over blocks of one length that match before it
-pub last-alike : (a b : List ℕ) (last m : ℕ) → length a ≡ length b → take m a ≡ take m b → last ≤ m
-    → alike (take (length a - last) (drop last a)) (take (length a - last) (drop last b)) ≡ alike a b
-last-alike a b last m l e h =
-    let p : take last a ≡ take last b = sym (take-take last m a h) ∙ ap (take last) e ∙ take-take last m b h in
-    rw
-    (take-all (length a - last) (drop last a) (simp length-drop (omega arith)), take-all (length a - last) (drop last b) (simp length-drop (omega arith)))
-    (alike-rest last a b p)
-
--- whole strides before the last byte of n are within n, and the last stride begins among them
+-- whole strides before the last of n bytes are within n, and the last stride begins among them
 pub strides-fit : (n stride : ℕ) → (n - 1) / stride * stride ≤ n
 strides-fit n stride = omega (arith, div-mul-le-self (n - 1) stride)
 
-pub strides-reach : (n stride : ℕ) → 0 < stride → n - stride ≤ (n - 1) / stride * stride
+strides-reach : (n stride : ℕ) → 0 < stride → n - stride ≤ (n - 1) / stride * stride
 strides-reach n stride h = omega (arith, div-add-mod' (n - 1) stride, mod-lt (n - 1) {m = stride} h)
 
--- blocks compared by strides: fewer match, or the last stride decides
-module _ (a b : List ℕ) (stride most : ℕ) {m : ℕ} (e : m ≡ matchingAll stride a b b b most) where
-  pub strided-less : m < most → false ≡ alike a b
-  strided-less h = sym (matching-less stride a b most (rw (e, matching-thrice stride a b most) at h))
+-- n bytes compared by strides: fewer match, or the last stride decides
+module _ (blocks : List ℕ) (stride n a b : ℕ) {m : ℕ} (e : m ≡ matchingAll blocks stride a b b b ((n - 1) / stride)) where
+  pub strided-less : m < (n - 1) / stride → false ≡ alike (bytesAt blocks n a) (bytesAt blocks n b)
+  strided-less h =
+      sym (matching-less blocks stride a b ((n - 1) / stride) n (strides-fit n stride) (rw (e, matching-thrice blocks stride a b ((n - 1) / stride)) at h))
 
-  pub strided-last : {r : Bool} (last : ℕ) → most ≤ m → length a ≡ length b → last ≤ most * stride
-      → let rest : List ℕ → List ℕ = λ x. take (length a - last) (drop last x) in
-      r ≡ allAlike (rest a) (rest b) (rest b) (rest b) → r ≡ alike a b
-  strided-last last h l k f =
-      f
-      ∙ alike-thrice (take (length a - last) (drop last a)) (take (length a - last) (drop last b))
-      ∙ last-alike a b last (most * stride) l (matching-take stride a b most most (rw (e, matching-thrice stride a b most) at h)) k
+  pub strided-last : {r : Bool} → (n - 1) / stride ≤ m → 0 < stride → stride ≤ n
+      → r ≡ allAlike blocks stride (a + (n - stride)) (b + (n - stride)) (b + (n - stride)) (b + (n - stride))
+      → r ≡ alike (bytesAt blocks n a) (bytesAt blocks n b)
+  strided-last h z l f =
+      let k : ℕ = (n - 1) / stride in
+      let w : bytesAt blocks (k * stride) a ≡ bytesAt blocks (k * stride) b =
+      matching-take blocks stride a b k k (rw (e, matching-thrice blocks stride a b k) at h) in
+      let i : n - stride ≤ k * stride = strides-reach n stride z in
+      let d : n - (n - stride) ≡ stride = omega arith in
+      alike-thrice blocks stride (a + (n - stride)) (b + (n - stride)) f
+      ∙ rw
+      (bytes-drop blocks (n - stride) n a (omega arith), bytes-drop blocks (n - stride) n b (omega arith), d)
+      at (alike-rest
+      (n - stride)
+      (bytesAt blocks n a)
+      (bytesAt blocks n b)
+      (bytes-take blocks (n - stride) n a (omega arith)
+      ∙ sym (bytes-take blocks (n - stride) (k * stride) a i)
+      ∙ ap (take (n - stride)) w
+      ∙ bytes-take blocks (n - stride) (k * stride) b i
+      ∙ sym (bytes-take blocks (n - stride) n b (omega arith))))
 
 -- ---- all blocks
 
@@ -147,50 +190,46 @@ module _ (blocks : List ℕ) (size : ℕ) where
   pub shared-le : (k : ℕ) → shared blocks size k ≤ size / 256
   unfolding shared
   shared-le zero = omega arith
-  shared-le (suc k) = omega (arith, matching-le 256 (blockOf blocks size 0) (blockOf blocks size k) (shared blocks size k), shared-le k)
+  shared-le (suc k) = omega (arith, matching-le blocks 256 0 (k * size) (shared blocks size k), shared-le k)
+
+  pub shared-fits : (k : ℕ) → shared blocks size k * 256 ≤ size
+  shared-fits k = omega (arith, shared-le k)
 
   -- what they share is that of replica 0
-  pub shared-take : (k i : ℕ) → i < k → take (shared blocks size k * 256) (blockOf blocks size i) ≡ take (shared blocks size k * 256) (blockOf blocks size 0)
+  shared-bytes : (k i : ℕ) → i < k → bytesAt blocks (shared blocks size k * 256) (i * size) ≡ bytesAt blocks (shared blocks size k * 256) 0
   unfolding shared
-  shared-take zero i h = absurd (omega arith)
-  shared-take (suc k) i h = go (ℕ-discrete i k) (shared-take k i)
+  shared-bytes zero i h = absurd (omega arith)
+  shared-bytes (suc k) i h = go (ℕ-discrete i k) (shared-bytes k i)
     where
       m : ℕ
-      m = matching 256 (blockOf blocks size 0) (blockOf blocks size k) (shared blocks size k)
+      m = matching blocks 256 0 (k * size) (shared blocks size k)
 
       few : m * 256 ≤ shared blocks size k * 256
-      few = mul-le-mul-right 256 (matching-le 256 (blockOf blocks size 0) (blockOf blocks size k) (shared blocks size k))
+      few = mul-le-mul-right 256 (matching-le blocks 256 0 (k * size) (shared blocks size k))
 
-      go : Dec (i ≡ k) → (i < k → take (shared blocks size k * 256) (blockOf blocks size i) ≡ take (shared blocks size k * 256) (blockOf blocks size 0))
-          → take (m * 256) (blockOf blocks size i) ≡ take (m * 256) (blockOf blocks size 0)
-      go (yes e) rest = rw e (sym (matching-take 256 (blockOf blocks size 0) (blockOf blocks size k) (shared blocks size k) m (omega arith)))
+      go : Dec (i ≡ k) → (i < k → bytesAt blocks (shared blocks size k * 256) (i * size) ≡ bytesAt blocks (shared blocks size k * 256) 0)
+          → bytesAt blocks (m * 256) (i * size) ≡ bytesAt blocks (m * 256) 0
+      go (yes e) rest = rw e (sym (matching-take blocks 256 0 (k * size) (shared blocks size k) m (omega arith)))
       go (no e) rest =
-          sym (take-take (m * 256) (shared blocks size k * 256) (blockOf blocks size i) few)
+          sym (bytes-take blocks (m * 256) (shared blocks size k * 256) (i * size) few)
           ∙ ap (take (m * 256)) (rest (omega arith))
-          ∙ take-take (m * 256) (shared blocks size k * 256) (blockOf blocks size 0) few
-
-  -- what is left of a block
-  pub rest-block : (from i : ℕ) → from ≤ size → restOf blocks size from i ≡ drop from (blockOf blocks size i)
-  rest-block from i h =
-      let e : from + (size - from) ≡ size = omega arith in
-      rw (← drop-drop from (i * size) blocks, ← drop-take from (size - from) (drop (i * size) blocks), e)
-    where
-      drop-take : (n m : ℕ) (xs : List ℕ) → drop n (take (n + m) xs) ≡ take m (drop n xs)
-      drop-take zero m xs = rw zero-add
-      drop-take (suc n) m [] = rw (take-nil m, take-nil (suc n + m))
-      drop-take (suc n) m (x ∷ xs) = rw suc-add (drop-take n m xs)
+          ∙ bytes-take blocks (m * 256) (shared blocks size k * 256) 0 few
 
   -- replicas that begin alike are told apart by what is left
-  pub lowest-rest : (k from i : ℕ) → from ≤ size → i < k
-      → ((j : ℕ) → j < k → take from (blockOf blocks size j) ≡ take from (blockOf blocks size 0))
-      → lowestFrom blocks size from i ≡ lowest blocks size i
-  lowest-rest k from i h l e =
+  pub lowest-rest : (k i : ℕ) {n : ℕ} → i < k → n ≡ shared blocks size k → lowestFrom blocks size (n * 256) i ≡ lowest blocks size i
+  lowest-rest k i {n = n} l q =
       first-agree
-      _
-      _
+      (λ r. alike (restOf blocks size (n * 256) r) (restOf blocks size (n * 256) i))
+      (λ r. alike (blockOf blocks size r) (blockOf blocks size i))
       0
       i
       (λ j m.
       rw
-      (rest-block from j h, rest-block from i h)
-      (alike-rest from (blockOf blocks size j) (blockOf blocks size i) (e j (omega arith) ∙ sym (e i l))))
+      (← bytes-drop blocks (n * 256) size (j * size) fits, ← bytes-drop blocks (n * 256) size (i * size) fits)
+      (alike-rest (n * 256) (blockOf blocks size j) (blockOf blocks size i) (begin j (omega arith) ∙ sym (begin i l))))
+    where
+      fits : n * 256 ≤ size
+      fits = rw q (shared-fits k)
+
+      begin : (j : ℕ) → j < k → take (n * 256) (blockOf blocks size j) ≡ bytesAt blocks (n * 256) 0
+      begin j h = bytes-take blocks (n * 256) size (j * size) fits ∙ rw q (shared-bytes k j h)

@@ -10,35 +10,36 @@ use Rattle.vote.specs.Decide.{blockOf, alike, tabulate, digits, votes, l
 
 -- ---- what all blocks share
 
--- a stride of a block
-abbrev pub strideOf : ℕ → List ℕ → ℕ → List ℕ
-strideOf stride block n = take stride (drop (n * stride) block)
+-- the n bytes at a place
+abbrev pub bytesAt : List ℕ → ℕ → ℕ → List ℕ
+bytesAt blocks n at = take n (drop at blocks)
 
--- two blocks differ in a stride
-abbrev pub differ : ℕ → List ℕ → List ℕ → ℕ → Bool
-differ stride a b n = not (alike (strideOf stride a n) (strideOf stride b n))
+-- the bytes at three places are those at the first
+abbrev pub allAlike : List ℕ → ℕ → ℕ → ℕ → ℕ → ℕ → Bool
+allAlike blocks n a b c d =
+    alike (bytesAt blocks n a) (bytesAt blocks n b) && (alike (bytesAt blocks n a) (bytesAt blocks n c) && alike (bytesAt blocks n a) (bytesAt blocks n d))
 
--- how many strides from the first on are the same in two blocks, of `most`
-abbrev pub matching : ℕ → List ℕ → List ℕ → ℕ → ℕ
-matching stride a b most = first (differ stride a b) 0 most
+-- the n-th strides at two places differ
+abbrev pub differ : List ℕ → ℕ → ℕ → ℕ → ℕ → Bool
+differ blocks stride a b n = not (alike (bytesAt blocks stride (a + n * stride)) (bytesAt blocks stride (b + n * stride)))
 
--- the same of a block and three others
-abbrev pub allAlike : List ℕ → List ℕ → List ℕ → List ℕ → Bool
-allAlike a b c d = alike a b && (alike a c && alike a d)
+-- how many strides from the first on are the same at two places, of `most`, and at four
+abbrev pub matching : List ℕ → ℕ → ℕ → ℕ → ℕ → ℕ
+matching blocks stride a b most = first (differ blocks stride a b) 0 most
 
-abbrev pub matchingAll : ℕ → List ℕ → List ℕ → List ℕ → List ℕ → ℕ → ℕ
-matchingAll stride a b c d most = matching stride a d (matching stride a c (matching stride a b most))
+abbrev pub matchingAll : List ℕ → ℕ → ℕ → ℕ → ℕ → ℕ → ℕ → ℕ
+matchingAll blocks stride a b c d most = matching blocks stride a d (matching blocks stride a c (matching blocks stride a b most))
 
 -- how many strides of 256 bytes from the first on are the same in the first k replicas
 unfoldable pub shared : List ℕ → ℕ → ℕ → ℕ
 shared blocks size zero = size / 256
-shared blocks size (suc i) = matching 256 (blockOf blocks size 0) (blockOf blocks size i) (shared blocks size i)
+shared blocks size (suc i) = matching blocks 256 0 (i * size) (shared blocks size i)
 
 -- ---- groups: agreement goes by content, so each replica is known by the lowest one with the same block
 
 -- the block of replica i from byte `from` on
 abbrev pub restOf : List ℕ → ℕ → ℕ → ℕ → List ℕ
-restOf blocks size from i = take (size - from) (drop (i * size + from) blocks)
+restOf blocks size from i = bytesAt blocks (size - from) (i * size + from)
 
 -- the lowest replica with the bytes of replica i from byte `from` on
 abbrev pub lowestFrom : List ℕ → ℕ → ℕ → ℕ → ℕ

@@ -1,41 +1,49 @@
 // Comparing: the table of which two replicas agree.
 ghost use mathlib.Core.Path.{_≡_};
-ghost use Prim.Native.Nat.{_+_, _*_, _/_, _≤_, _<_};
+ghost use Prim.Native.Nat.{_+_, _*_, _≤_, _<_};
 ghost use lib.ListN.{length, getD};
 ghost use Rattle.vote.specs.Decide.{alike, tabulate, agreements};
-ghost use Rattle.vote.specs.Groups.{allAlike, matchingAll, shared, lowestFrom, instead, groupsOf, together};
+ghost use Rattle.vote.specs.Groups.{bytesAt, allAlike, matchingAll, shared, lowestFrom, instead, groupsOf, together};
 
 // Blocks are compared a stride at a time; a block under a stride, by shorter ones.
 const STRIDE: usize = 256;
 
 const SHORT_STRIDE: usize = 16;
 
-// Whether three blocks hold the bytes of the first. It has no early exit, so that it is vector code, without a loop where the length is known;
-// and it reads the first once for three. Where a block is passed twice the compiler compares it once.
-fn folded(a: &[u8], b: &[u8], c: &[u8], d: &[u8]) -> bool
-    requires { ⌜ (length (now a) ≡ length (now b)) × (length (now a) ≡ length (now c)) × (length (now a) ≡ length (now d)) ⌝ }
-    ensures { λ r. ⌜ r ≡ allAlike (now (a .entry)) (now (b .entry)) (now (c .entry)) (now (d .entry)) ⌝ }
+// Whether the n bytes at three places are those at the first. It has no early exit, so that it is vector code, without a loop where n is known;
+// and it reads the first once for three. Where a place is passed twice the compiler compares it once.
+fn folded(blocks: &[u8], n: usize, a: usize, b: usize, c: usize, d: usize) -> bool
+    requires { ⌜ (a + n ≤ length (now blocks)) × (b + n ≤ length (now blocks)) × (c + n ≤ length (now blocks)) × (d + n ≤ length (now blocks)) ⌝ }
+    ensures { λ r. ⌜ r ≡ allAlike (now (blocks .entry)) n a b c d ⌝ }
 {
     let mut differ: u8 = 0;
-    let mut i = 0;
-    while i < a.len() {
-        differ |= a[i] ^ b[i] | a[i] ^ c[i] | a[i] ^ d[i];
+    let mut i: usize = 0;
+    while i < n {
+        let x = blocks[a + i];
+        differ |= x ^ blocks[b + i] | x ^ blocks[c + i] | x ^ blocks[d + i];
         i += 1;
     }
     differ == 0
 }
 
-// How many strides from the first on are the same in four blocks, of `most`.
-fn matching(a: &[u8], b: &[u8], c: &[u8], d: &[u8], stride: usize, most: usize) -> usize
-    requires { ⌜ (most * stride ≤ length (now a)) × (most * stride ≤ length (now b)) × (most * stride ≤ length (now c)) × (most * stride ≤ length (now d)) ⌝ }
-    ensures { λ r. ⌜ r ≡ matchingAll stride (now (a .entry)) (now (b .entry)) (now (c .entry)) (now (d .entry)) most ⌝ }
+// How many strides from the first on are the same at four places, of `most`.
+fn matching(
+    blocks: &[u8],
+    stride: usize,
+    most: usize,
+    a: usize,
+    b: usize,
+    c: usize,
+    d: usize,
+) -> usize
+    requires { ⌜ (a + most * stride ≤ length (now blocks)) × (b + most * stride ≤ length (now blocks)) × (c + most * stride ≤ length (now blocks)) × (d + most * stride ≤ length (now blocks)) ⌝ }
+    ensures { λ r. ⌜ r ≡ matchingAll (now (blocks .entry)) stride a b c d most ⌝ }
 {
     let mut at: usize = 0;
     let mut n: usize = 0;
     while n < most {
-        let next = at + stride;
-        if folded(&a[at..next], &b[at..next], &c[at..next], &d[at..next]) {
-            at = next;
+        if folded(blocks, stride, a + at, b + at, c + at, d + at) {
+            at += stride;
             n += 1;
         } else {
             return n;
@@ -44,32 +52,30 @@ fn matching(a: &[u8], b: &[u8], c: &[u8], d: &[u8], stride: usize, most: usize) 
     most
 }
 
-// Whether two blocks hold the same bytes, by strides. The last ends with the block and may overlap the one before, so that all have one length.
-fn strided(a: &[u8], b: &[u8], stride: usize) -> bool
-    requires { ⌜ (length (now a) ≡ length (now b)) × (0 < stride) × (stride ≤ length (now a)) ⌝ }
-    ensures { λ r. ⌜ r ≡ alike (now (a .entry)) (now (b .entry)) ⌝ }
+// Whether the n bytes at two places are the same, by strides. The last ends with them and may overlap the one before, so that all have one length.
+fn strided(blocks: &[u8], stride: usize, n: usize, a: usize, b: usize) -> bool
+    requires { ⌜ (0 < stride) × (stride ≤ n) × (a + n ≤ length (now blocks)) × (b + n ≤ length (now blocks)) ⌝ }
+    ensures { λ r. ⌜ r ≡ alike (bytesAt (now (blocks .entry)) n a) (bytesAt (now (blocks .entry)) n b) ⌝ }
 {
-    let end = a.len();
-    let most = (end - 1) / stride;
-    if matching(a, b, b, b, stride, most) < most {
+    let most = (n - 1) / stride;
+    if matching(blocks, stride, most, a, b, b, b) < most {
         return false;
     }
-    let last = end - stride;
-    let rest = &b[last..end];
-    folded(&a[last..end], rest, rest, rest)
+    let last = n - stride;
+    folded(blocks, stride, a + last, b + last, b + last, b + last)
 }
 
-fn same(a: &[u8], b: &[u8]) -> bool
-    requires { ⌜ length (now a) ≡ length (now b) ⌝ }
-    ensures { λ r. ⌜ r ≡ alike (now (a .entry)) (now (b .entry)) ⌝ }
+fn same(blocks: &[u8], n: usize, a: usize, b: usize) -> bool
+    requires { ⌜ (a + n ≤ length (now blocks)) × (b + n ≤ length (now blocks)) ⌝ }
+    ensures { λ r. ⌜ r ≡ alike (bytesAt (now (blocks .entry)) n a) (bytesAt (now (blocks .entry)) n b) ⌝ }
 {
-    if a.len() < SHORT_STRIDE {
-        return folded(a, b, b, b);
+    if n < SHORT_STRIDE {
+        return folded(blocks, n, a, b, b, b);
     }
-    if a.len() < STRIDE {
-        return strided(a, b, SHORT_STRIDE);
+    if n < STRIDE {
+        return strided(blocks, SHORT_STRIDE, n, a, b);
     }
-    strided(a, b, STRIDE)
+    strided(blocks, STRIDE, n, a, b)
 }
 
 // How many strides from the first on are the same in all blocks. These are compared with replica 0 alone, each as far as those before it match.
@@ -77,36 +83,24 @@ fn shared(blocks: &[u8], replicas: usize, block_len: usize) -> usize
     requires { ⌜ (length (now blocks) ≡ replicas * «block_len») × (0 < replicas) ⌝ }
     ensures { λ r. ⌜ r ≡ shared (now (blocks .entry)) «block_len» replicas ⌝ }
 {
-    let first = &blocks[0..block_len];
     let mut most = block_len / STRIDE;
-    let mut start: usize = block_len;
+    let mut b: usize = block_len;
     let mut left = replicas - 1;
     while 3 <= left {
-        let b = start + block_len;
         let c = b + block_len;
         let d = c + block_len;
-        most = matching(
-            first,
-            &blocks[start..b],
-            &blocks[b..c],
-            &blocks[c..d],
-            STRIDE,
-            most,
-        );
-        start = d;
+        most = matching(blocks, STRIDE, most, 0, b, c, d);
+        b = d + block_len;
         left -= 3;
     }
     if left == 0 {
         return most;
     }
-    let middle = start + block_len;
-    let one = &blocks[start..middle];
     if left == 1 {
-        return matching(first, one, one, one, STRIDE, most);
+        return matching(blocks, STRIDE, most, 0, b, b, b);
     }
-    let end = middle + block_len;
-    let two = &blocks[middle..end];
-    matching(first, one, two, two, STRIDE, most)
+    let c = b + block_len;
+    matching(blocks, STRIDE, most, 0, b, c, c)
 }
 
 // The lowest replica that has the same bytes as this one from byte `from` on.
@@ -114,19 +108,15 @@ fn lowest_alike(blocks: &[u8], block_len: usize, from: usize, replica: usize) ->
     requires { ⌜ (replica * «block_len» + «block_len» ≤ length (now blocks)) × (from ≤ «block_len») ⌝ }
     ensures { λ r. ⌜ r ≡ lowestFrom (now (blocks .entry)) «block_len» from replica ⌝ }
 {
-    let first = replica * block_len;
-    let start = first + from;
-    let end = first + block_len;
-    let own = &blocks[start..end];
+    let rest = block_len - from;
+    let own = replica * block_len + from;
     let mut at: usize = 0;
     let mut i = 0;
     while i < replica {
-        let rest = at + from;
-        let next = at + block_len;
-        if same(&blocks[rest..next], own) {
+        if same(blocks, rest, at + from, own) {
             return i;
         }
-        at = next;
+        at += block_len;
         i += 1;
     }
     replica

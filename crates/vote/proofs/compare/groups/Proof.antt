@@ -1,10 +1,10 @@
-use Prim.Native.Nat.{_+_, _*_, _-_, _≤_}
+use Prim.Native.Nat.{_-_}
 use native.Mathlib.Omega.{arith}
-use mathlib.Core.Path.{_≡_, refl, _∙_}
-use lib.ListN.{length}
+use mathlib.Core.Path.{_≡_, _∙_}
 use Rattle.vote.specs.Groups.{lowest}
 use Rattle.vote.proofs.Blocks.{block-within}
-use Rattle.vote.proofs.Lowest.{lowest-le, shared-fits, lowest-shared, Grouped, grouped-none, grouped-more, grouped-all}
+use Rattle.vote.proofs.Strides.{shared-fits, lowest-rest}
+use Rattle.vote.proofs.Lowest.{lowest-le, Grouped, grouped-none, grouped-more, grouped-all}
 use Rattle.vote.proofs.compare.groups.Statement.{statement}
 use Rattle.vote.proofs.compare.groups.Tie as tie
 
@@ -21,7 +21,7 @@ found : (c : tie.After-lowest-alike Inv-loop μ-loop)
 found c =
     let a = c .before .before .before .before .before .args in
     c .lowest-alike .ensures
-    ∙ lowest-shared (a .blocks .now) (a .block-len) (a .replicas) (c .before .before .loop .i) (omega arith) (c .before .before .before .shared .ensures)
+    ∙ lowest-rest (a .blocks .now) (a .block-len) (a .replicas) (c .before .before .loop .i) (omega arith) (c .before .before .before .shared .ensures)
 
 shared-requires : tie.Need-shared-requires Inv-loop μ-loop
 shared-requires c κs = omega arith

@@ -1,4 +1,3 @@
-use mathlib.Core.Path.{_∙_}
 use Rattle.vote.proofs.Blocks.{alike-thrice}
 use borrow.Author.Needs.{needs}
 use Rattle.vote.proofs.compare.same.Statement.{statement}
@@ -8,7 +7,9 @@ folded-requires : tie.Need-folded-requires
 folded-requires c κs = search needs
 
 returns : tie.Need-returns
-returns c = c .folded .ensures ∙ alike-thrice _ _
+returns c =
+    let x = c .before .before .before .args in
+    alike-thrice (x .blocks .now) (x .n) (x .a) (x .b) (c .folded .ensures)
 
 strided-requires : tie.Need-strided-requires
 strided-requires c κs = search needs

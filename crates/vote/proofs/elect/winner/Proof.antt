@@ -1,8 +1,6 @@
 use Prim.Native.Nat.{_-_, _<_}
 use native.Mathlib.Omega.{arith}
-use mathlib.Core.Path.{_∙_}
 use mathlib.Core.Logic.{⊎-elim}
-use lib.Seq.{take-all}
 use Rattle.vote.proofs.Winner.{Led, led-none, led-new, led-old, led-all, led-small, counted}
 use Rattle.vote.proofs.elect.winner.Statement.{statement}
 use Rattle.vote.proofs.elect.winner.Tie as tie
