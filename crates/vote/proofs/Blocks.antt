@@ -1,17 +1,17 @@
 -- Two blocks are alike where they are equal, and comparing goes byte by byte.
-use Prim.Native.Nat.{ℕ, _+_, _*_, _-_, _≤_, _<_}
-use native.Mathlib.Nat.{add-sub-cancel-left, suc-mul, mul-le-mul-right}
-use native.Mathlib.Numerals.{add-one}
+use Prim.Native.Nat.{ℕ, suc, _+_, _*_, _-_, _≤_, _<_}
+use native.Mathlib.Nat.{sub-zero, add-zero, add-sub-cancel-left, suc-mul, mul-le-mul-right}
 use native.Mathlib.Omega.{arith}
 use mathlib.Core.Path.{_≡_, refl, _∙_}
-use mathlib.Core.Bool.{Bool, true, false, _&&_, and-assoc, and-true}
+use mathlib.Core.Bool.{Bool, true, false, _&&_, and-true, and-false}
 use mathlib.Core.List.{List, [], _∷_}
-use lib.ListN.{length, getD, take, drop, length-take, length-drop, drop-of-length-le}
+use lib.ListN.{length, getD, take, drop, length-take, length-drop}
 use lib.Seq.{drop-cons}
-use lib.Bits.{bitOr, bitXor, or-add-and, xor-add-and, and-le-l, and-le-r, or-zero-l, xor-self}
+use lib.Bits.{bitOr, bitXor, or-add-and, xor-add-and, and-le-l, and-le-r, xor-self}
 use lib.Dec.{eqb}
 use borrow.Author.Tests.{eq-eqb, ne-eqb, eqb-true, eqb-false}
 use Rattle.vote.specs.Decide.{alike}
+use Rattle.vote.specs.Groups.{bytesAt, allAlike}
 
 -- the part of a slice that starts at `start` and has a block's size
 abbrev pub part : List ℕ → ℕ → ℕ → List ℕ
@@ -48,45 +48,98 @@ alike-equal (x ∷ xs) (y ∷ ys) h = go (eqb x y) refl h (alike-equal xs ys)
     go true e h rest = cc (eqb-true x y e, rest h)
     go false e h rest = cc
 
--- no difference is left where there was none and the next bytes are equal
-differ-step : (d x y : ℕ) → eqb (bitOr d (bitXor x y)) 0 ≡ eqb d 0 && eqb x y
-differ-step d x y = go (eqb d 0) (eqb x y) refl refl
+-- no difference is left where there was none on either side
+or-none : (d e : ℕ) → eqb (bitOr d e) 0 ≡ eqb d 0 && eqb e 0
+or-none d e = go (eqb d 0) (eqb e 0) refl refl
   where
-    sums : bitOr d (bitXor x y) ≡ 0 → (d ≡ 0) × (x ≡ y)
-    sums z = omega
-        (arith, or-add-and d (bitXor x y), and-le-l d (bitXor x y), and-le-r d (bitXor x y), xor-add-and x y, and-le-l x y, and-le-r x y)
+    sums : bitOr d e ≡ 0 → (d ≡ 0) × (e ≡ 0)
+    sums z = omega (arith, or-add-and d e, and-le-l d e, and-le-r d e)
 
-    go : (s t : Bool) → eqb d 0 ≡ s → eqb x y ≡ t → eqb (bitOr d (bitXor x y)) 0 ≡ s && t
-    go true true p q = rw (eqb-true d 0 p, eqb-true x y q, or-zero-l (bitXor y y), xor-self y)
-    go true false p q = ne-eqb _ 0 (λ z. eqb-false x y q (sums z .1))
+    go : (s t : Bool) → eqb d 0 ≡ s → eqb e 0 ≡ t → eqb (bitOr d e) 0 ≡ s && t
+    go true true p q = rw (eqb-true d 0 p, eqb-true e 0 q)
+    go true false p q = ne-eqb _ 0 (λ z. eqb-false e 0 q (sums z .1))
     go false t p q = ne-eqb _ 0 (λ z. eqb-false d 0 p (sums z .0))
 
--- two blocks of one length before byte i, with d no 0 where a difference was found
-pub record Compared (a b : List ℕ) (d i : ℕ) : Type 0 where
-  pub lengths : length a ≡ length b
-  pub within : i ≤ length a
-  pub so-far : alike a b ≡ eqb d 0 && alike (drop i a) (drop i b)
+-- two bytes do not differ where they are equal
+xor-none : (x y : ℕ) → eqb (bitXor x y) 0 ≡ eqb x y
+xor-none x y = go (eqb x y) refl
+  where
+    same : bitXor x y ≡ 0 → x ≡ y
+    same z = omega (arith, xor-add-and x y, and-le-l x y, and-le-r x y)
 
-module _ {a b : List ℕ} where
+    go : (t : Bool) → eqb x y ≡ t → eqb (bitXor x y) 0 ≡ t
+    go true q = rw (eqb-true x y q, xor-self y)
+    go false q = ne-eqb _ 0 (λ z. eqb-false x y q (same z))
+
+-- a byte of each block more
+differ-step : (s x y z w : ℕ) (p q r : Bool)
+    → eqb s 0 && ((eqb x y && p) && ((eqb x z && q) && (eqb x w && r)))
+    ≡ eqb (bitOr s (bitOr (bitOr (bitXor x y) (bitXor x z)) (bitXor x w))) 0 && (p && (q && r))
+differ-step s x y z w p q r =
+    rw
+    (or-none s (bitOr (bitOr (bitXor x y) (bitXor x z)) (bitXor x w)), or-none (bitOr (bitXor x y) (bitXor x z)) (bitXor x w), or-none (bitXor x y) (bitXor x z), xor-none x y, xor-none x z, xor-none x w)
+    (sort (eqb s 0) (eqb x y) (eqb x z) (eqb x w))
+  where
+    sort : (s e f g : Bool) → s && ((e && p) && ((f && q) && (g && r))) ≡ (s && ((e && f) && g)) && (p && (q && r))
+    sort false e f g = refl
+    sort true false f g = refl
+    sort true true false g = and-false p
+    sort true true true false = rw (and-false q, and-false p)
+    sort true true true true = refl
+
+-- the first of some bytes, and those after it
+bytes-cons : (blocks : List ℕ) (n at i : ℕ) → i < n → at + n ≤ length blocks
+    → bytesAt blocks (n - i) (at + i) ≡ getD blocks (at + i) 0 ∷ bytesAt blocks (n - (i + 1)) (at + (i + 1))
+bytes-cons blocks n at i h l =
+    let p : n - i ≡ suc (n - (i + 1)) = omega arith in
+    let q : at + (i + 1) ≡ suc (at + i) = omega arith in
+    rw (p, q, drop-cons blocks (at + i) 0 (omega arith))
+
+-- the n bytes at four places before byte i, with x no 0 where a difference was found
+pub record Compared (blocks : List ℕ) (n a b c d x i : ℕ) : Type 0 where
+  pub first : a + n ≤ length blocks
+  pub second : b + n ≤ length blocks
+  pub third : c + n ≤ length blocks
+  pub fourth : d + n ≤ length blocks
+  pub within : i ≤ n
+  pub so-far : allAlike blocks n a b c d ≡ eqb x 0 && allAlike blocks (n - i) (a + i) (b + i) (c + i) (d + i)
+
+module _ {blocks : List ℕ} {n a b c d : ℕ} where
   -- none compared yet
-  pub compared-none : length a ≡ length b → Compared a b 0 0
-  compared-none e = record { lengths = e; within = omega arith; so-far = refl }
+  pub compared-none : (a + n ≤ length blocks) × (b + n ≤ length blocks) × (c + n ≤ length blocks) × (d + n ≤ length blocks)
+      → Compared blocks n a b c d 0 0
+  compared-none h =
+      record { first = h .0; second = h .1; third = h .2; fourth = h .3; within = omega arith; so-far = rw (sub-zero, add-zero, add-zero, add-zero, add-zero) }
 
-  module _ {d i : ℕ} (c : Compared a b d i) where
+  module _ {x i : ℕ} (s : Compared blocks n a b c d x i) where
     -- one byte more
-    pub compared-more : i < length a → Compared a b (bitOr d (bitXor (getD a i 0) (getD b i 0))) (i + 1)
+    pub compared-more : i < n
+        → let at : ℕ → ℕ = λ p. getD blocks (p + i) 0 in
+        Compared blocks n a b c d (bitOr x (bitOr (bitOr (bitXor (at a) (at b)) (bitXor (at a) (at c))) (bitXor (at a) (at d)))) (i + 1)
     unfolding alike
     compared-more l =
-        let m : i < length b = omega arith in
         record {
-          lengths = c .lengths;
+          first = s .first;
+          second = s .second;
+          third = s .third;
+          fourth = s .fourth;
           within = omega arith;
-          so-far = c .so-far ∙ rw (add-one, drop-cons a i 0, drop-cons b i 0, differ-step, and-assoc);
+          so-far =
+              s .so-far
+              ∙ rw
+              (bytes-cons blocks n a i l (s .first), bytes-cons blocks n b i l (s .second), bytes-cons blocks n c i l (s .third), bytes-cons blocks n d i l (s .fourth))
+              (differ-step x (getD blocks (a + i) 0) (getD blocks (b + i) 0) (getD blocks (c + i) 0) (getD blocks (d + i) 0) _ _ _);
         }
 
     -- all compared
-    pub compared-all : length a ≤ i → eqb d 0 ≡ alike a b
+    pub compared-all : n ≤ i → eqb x 0 ≡ allAlike blocks n a b c d
     unfolding alike
-    compared-all l =
-        let m : length b ≤ i = omega arith in
-        rw (c .so-far, drop-of-length-le a, drop-of-length-le b, and-true)
+    compared-all l = let e : n - i ≡ 0 = omega arith in rw (s .so-far, e, and-true)
+
+-- a place that is compared thrice
+pub alike-thrice : (blocks : List ℕ) (n a b : ℕ) {r : Bool} → r ≡ allAlike blocks n a b b b → r ≡ alike (bytesAt blocks n a) (bytesAt blocks n b)
+alike-thrice blocks n a b e = e ∙ go (alike (bytesAt blocks n a) (bytesAt blocks n b))
+  where
+    go : (t : Bool) → t && (t && t) ≡ t
+    go true = refl
+    go false = refl

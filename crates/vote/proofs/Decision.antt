@@ -1,19 +1,21 @@
 -- A vote's decision from what the code finds.
-use Prim.Native.Nat.{ℕ, _+_, _*_, _/_, _%_, _^_, _≤_, _<_}
+use Prim.Native.Nat.{ℕ, _+_, _*_, _-_, _/_, _%_, _^_, _≤_, _<_}
+use native.Mathlib.Nat.{sub-zero}
 use native.Mathlib.Omega.{arith}
-use mathlib.Core.Path.{_≡_, refl}
+use mathlib.Core.Path.{_≡_, refl, ap, _∙_}
 use mathlib.Core.Logic.{_↔_}
-use mathlib.Core.Bool.{Bool, true, false, true≢false, _||_}
+use mathlib.Core.Bool.{Bool, true, false, true≢false, _||_, and-false}
 use mathlib.Core.List.{List, [], _++_}
 use lib.ListN.{length, getD, take, drop}
-use lib.Seq.{take-length}
-use lib.Dec.{ltb}
+use lib.Seq.{take-length, take-append-seam}
 use borrow.Author.Tests.{lt-ltb, le-ltb, ltb-false, eqb-true, not-false}
 use Rattle.answer.specs.declared.Refusal.the-variants.{InvalidVote, NoAgreement}
-use Rattle.vote.specs.Decide.{blockOf, tabulate, agree, agreements, votes, maskOf, leader, invalid, won, lost, count, decide}
+use Rattle.vote.specs.declared.elect.Elected.{Elected}
+use Rattle.vote.specs.Groups.{electedOf}
+use Rattle.vote.specs.Decide.{blockOf, tabulate, agree, agreements, digits, votes, maskOf, leader, invalid, won, lost, count, decide}
 use Rattle.vote.proofs.Blocks.{part, part-block, part-length, block-within, alike-self}
 use Rattle.vote.proofs.Tables.{tabulate-at}
-use Rattle.vote.proofs.Winner.{mask-bit, leader-le}
+use Rattle.vote.proofs.Winner.{mask-bit, digits-front, leader-le}
 
 -- the numbers of a vote that is allowed
 pub record Allowed (blocksLength k size outputLength : ℕ) : Type 0 where
@@ -21,6 +23,7 @@ pub record Allowed (blocksLength k size outputLength : ℕ) : Type 0 where
   pub some : 0 < k
   pub few : k ≤ 16
   pub whole : blocksLength ≡ k * size
+  pub short : size ≤ 4096
   pub room : size ≤ outputLength
 
 -- a disjunction is false where both sides are
@@ -38,6 +41,7 @@ allowed e =
       some = omega (arith, ltb-false);
       few = omega (arith, ltb-false);
       whole = eqb-true _ _ (not-false _ (facts .0 .1));
+      short = omega (arith, ltb-false);
       room = omega (arith, ltb-false);
     }
 
@@ -47,59 +51,87 @@ pub decide-invalid : (blocks : List ℕ) (k size n : ℕ) → invalid (length bl
 unfolding decide
 decide-invalid blocks k size n e = rw (e, decide)
 
--- a vote that is allowed, its table and the leader of the table
-pub record Elected (blocks : List ℕ) (k size n : ℕ) (table : List (List Bool)) (winner : ℕ) : Type 0 where
+-- a vote that is allowed, its table and the winner of the table
+pub record Found (blocks : List ℕ) (k size n : ℕ) (table : List (List Bool)) (w : Elected) : Type 0 where
   pub numbers : Allowed (length blocks) k size n
   pub agreed : table ≡ agreements blocks k size
-  pub leads : winner ≡ leader table k
+  pub elects : w ≡ electedOf table k
 
-module _ {blocks : List ℕ} {k size n : ℕ} {table : List (List Bool)} {winner : ℕ} (e : Elected blocks k size n table winner) where
-  -- it is one of the replicas
-  within : winner < k
-  within = omega (arith, e .numbers .some, e .leads, leader-le table k)
+module _ {blocks : List ℕ} {k size n : ℕ} {table : List (List Bool)} {w : Elected} (e : Found blocks k size n table w) where
+  -- it is the leader
+  leads : w .replica ≡ leader (agreements blocks k size) k
+  leads = rw (e .elects, e .agreed)
 
-  -- it is an index of the table
-  pub elected-small : winner < 16
-  elected-small = omega (arith, within, e .numbers .few)
+  -- one of the replicas
+  within : w .replica < k
+  within = omega (arith, e .numbers .some, leads, leader-le (agreements blocks k size) k)
+
+  -- an index of the table
+  small : w .replica < 16
+  small = omega (arith, within, e .numbers .few)
+
+  -- a number of 32 bits
+  pub found-small : w .replica < 2 ^ 32
+  found-small = omega (arith, small)
 
   -- its block is within the blocks
-  pub elected-block : winner * size + size ≤ length blocks
-  elected-block = rw (e .numbers .whole) (block-within winner k size within)
+  pub found-block : w .replica * size + size ≤ length blocks
+  found-block = rw (e .numbers .whole) (block-within (w .replica) k size within)
 
   -- there is room for its block
-  pub elected-room : length (part blocks (winner * size) size) ≤ n
-  elected-room = rw (part-length blocks (winner * size) size elected-block) (e .numbers .room)
+  pub found-room : length (part blocks (w .replica * size) size) ≤ n
+  found-room = rw (part-length blocks (w .replica * size) size found-block) (e .numbers .room)
 
-  -- the code tests its votes
-  test : ltb (votes (getD (agreements blocks k size) (leader (agreements blocks k size) k) [])) 2 ≡ ltb (votes (getD table winner [])) 2
-  test = rw (e .leads, e .agreed)
+  pub found-short : length (part blocks (w .replica * size) size) ≤ 4096
+  found-short = rw (part-length blocks (w .replica * size) size found-block) (e .numbers .short)
+
+  -- its row
+  abbrev pub row : List Bool
+  row = tabulate (agree blocks k size (w .replica)) 0 16
+
+  is-row : getD (agreements blocks k size) (leader (agreements blocks k size) k) [] ≡ row
+  is-row = rw (← leads) (tabulate-at (λ i. tabulate (agree blocks k size i) 0 16) [] 16 (w .replica) small)
+
+  counts : w .count ≡ votes row
+  counts =
+      ap (λ (x : Elected). x .count) (e .elects)
+      ∙ ap (λ (t : List (List Bool)). votes (getD t (leader t k) [])) (e .agreed)
+      ∙ ap votes is-row
+
+  -- it says yes to none past the replicas
+  masks : w .mask ≡ maskOf row
+  masks =
+      ap (λ (x : Elected). x .mask) (e .elects)
+      ∙ ap (λ (t : List (List Bool)). digits 2 (take k (getD t (leader t k) []))) (e .agreed)
+      ∙ ap (λ (r : List Bool). digits 2 (take k r)) is-row
+      ∙ (digits-front 2 (agree blocks k size (w .replica)) 0 k 16 (λ j h. rw (le-ltb j k (omega arith), and-false)))
 
   -- with one vote at most no two agree
-  pub elected-lost : votes (getD table winner []) < 2 → decide blocks k size n ≡ lost NoAgreement
+  pub found-lost : w .count < 2 → decide blocks k size n ≡ lost NoAgreement
   unfolding decide count
-  elected-lost h = rw (e .numbers .valid, decide, test, lt-ltb _ 2 h, count)
+  found-lost h = rw (e .numbers .valid, decide, is-row, lt-ltb _ 2 (rw counts at h), count)
 
   -- with more its block wins
-  pub elected-won : 2 ≤ votes (getD table winner [])
-      → decide blocks k size n ≡ won (getD table winner []) (blockOf blocks size winner)
+  pub found-won : 2 ≤ w .count → (decide blocks k size n ≡ won row (blockOf blocks size (w .replica))) × (w .count ≡ votes row) × (w .mask ≡ maskOf row)
   unfolding decide count
-  elected-won h = rw (e .numbers .valid, decide, test, le-ltb _ 2 h, count, e .leads, e .agreed)
+  found-won h = (rw (e .numbers .valid, decide, is-row, le-ltb _ 2 (rw counts at h), count, is-row, ← leads), counts, masks)
 
   -- it agrees with itself, so its bit is set in the mask
-  pub elected-named : maskOf (getD table winner []) / 2 ^ winner % 2 ≡ 1
-  elected-named =
-      rw (
-        mask-bit,
-        e .agreed,
-        tabulate-at (λ i. tabulate (agree blocks k size i) 0 16) [] 16 winner elected-small,
-        tabulate-at (agree blocks k size winner) false 16 winner elected-small,
-        lt-ltb winner k within,
-        alike-self,
-      )
+  pub found-named : maskOf row / 2 ^ w .replica % 2 ≡ 1
+  found-named =
+      rw (mask-bit, tabulate-at (agree blocks k size (w .replica)) false 16 (w .replica) small, lt-ltb (w .replica) k within, alike-self)
 
-  -- its block is copied to the front of an output
-  pub elected-copied : (output : List ℕ)
-      → let from = part blocks (winner * size) size in
-      let block = blockOf blocks size winner in
-      take (length from) from ++ drop (length from) output ≡ block ++ drop (length block) output
-  elected-copied output = rw (take-length, part-block)
+  -- its block is put to the front of an output
+  pub found-put : (output : List ℕ)
+      → let from = part blocks (w .replica * size) size in
+      let block = blockOf blocks size (w .replica) in
+      from ++ drop (length from) output ≡ block ++ drop (length block) output
+  found-put output = rw part-block
+
+-- a block that is copied to an array and from there to an output
+pub put-by-way : (block output array between : List ℕ) → between ≡ take (length block) block ++ drop (length block) array
+    → let part = take (length block - 0) (drop 0 between) in
+    take (length part) part ++ drop (length part) output ≡ block ++ drop (length block) output
+put-by-way block output array between e =
+    let p : take (length block - 0) (drop 0 between) ≡ block = rw (sub-zero, e, take-length block) (take-append-seam block (drop (length block) array)) in
+    rw (p, take-length block)

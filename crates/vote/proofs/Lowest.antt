@@ -1,115 +1,205 @@
--- The search for the lowest replica with the same block, and that two replicas agree where it finds the same one.
-use Prim.Native.Nat.{ℕ, _+_, _*_, _-_, _≤_, _<_}
-use native.Mathlib.Nat.{zero-add, sub-zero, suc-mul}
+-- The lowest replica with the same block, and that two replicas agree where theirs are the same.
+use Prim.Native.Nat.{ℕ, _+_, _*_, _-_, _/_, _≤_, _<_}
+use native.Mathlib.Nat.{zero-add, zero-mul, suc-mul, add-mul, mul-le-mul-right}
 use native.Mathlib.Numerals.{add-one}
+use native.Mathlib.Decide.{ℕ-discrete, decLt}
 use native.Mathlib.Omega.{arith}
 use mathlib.Core.Path.{_≡_, refl, sym, _∙_}
+use mathlib.Core.Logic.{_≢_}
 use mathlib.Core.Bool.{Bool, true, false, _&&_}
-use mathlib.Core.List.{List}
+use mathlib.Core.List.{List, [], _∷_}
+use lib.ListN.{getD, replicate}
 use lib.Dec.{ltb, eqb}
-use borrow.Author.Tests.{lt-ltb, le-ltb, ltb-true, eqb-true, eq-eqb}
+use borrow.Author.Tests.{lt-ltb, le-ltb, eqb-true, eq-eqb, ne-eqb}
 use Rattle.search.specs.First.{first}
-use Rattle.search.proofs.First.{first-found, first-past, first-none, first-holds, first-same}
+use Rattle.search.proofs.First.{first-holds, first-same, first-range}
 use Rattle.vote.specs.Decide.{blockOf, alike, tabulate, agree, agreements}
-use Rattle.vote.specs.Groups.{hasBlock, groupOf, groupsOf, together}
-use Rattle.vote.proofs.Blocks.{part, part-block, alike-self, alike-equal}
-use Rattle.vote.proofs.Tables.{tabulate-at, tabulate-same}
+use Rattle.vote.specs.Groups.{bytesAt, matching, matchingAll, shared, restOf, lowest, groupOf, groupsOf, instead, together}
+use Rattle.vote.proofs.Blocks.{alike-self, alike-equal}
+use Rattle.vote.proofs.Strides.{same-test, matching-self, matching-again, matching-thrice, shared-le}
+use Rattle.vote.proofs.Tables.{tabulate-at, tabulate-same, Filled, filled-to}
 
--- ---- the loop
+-- ---- what all blocks share
 
--- a replica that takes no part is alone
-pub alone : (blocks : List ℕ) (k size r : ℕ) → k ≤ r → r ≡ groupOf blocks k size r
-unfolding groupOf
-alone blocks k size r h = rw (le-ltb r k h, groupOf)
+-- the first i of k blocks were compared, and they share `most` strides
+pub record Sharing (blocks : List ℕ) (k size most start i : ℕ) : Type 0 where
+  pub place : start ≡ i * size
+  pub within : i ≤ k
+  pub so-far : most ≡ shared blocks size i
 
--- the search for replica r's block among k replicas has come to replica i, whose block begins at `at`
-pub record Searched (blocks : List ℕ) (k size r at i : ℕ) : Type 0 where
-  pub place : at ≡ i * size
-  pub within : i ≤ r
-  pub rest : groupOf blocks k size r ≡ first (hasBlock blocks size (blockOf blocks size r)) i (r - i)
+module _ {blocks : List ℕ} {k size : ℕ} where
+  -- replica 0 alone
+  pub sharing-none : (i : ℕ) → i ≡ 1 → 0 < k → Sharing blocks k size (size / 256) size i
+  unfolding shared
+  sharing-none i e h =
+      rw e record { place = omega arith; within = omega arith; so-far = rw zero-mul (sym (matching-self blocks 256 0 (size / 256))) }
 
-module _ {blocks : List ℕ} {k size r : ℕ} where
-  -- none searched yet
-  pub searched-none : r < k → Searched blocks k size r 0 0
-  unfolding groupOf
-  searched-none h = record { place = omega arith; within = omega arith; rest = rw (lt-ltb r k h, groupOf, sub-zero) }
+  -- one replica more
+  sharing-more : {most start i next : ℕ} → Sharing blocks k size most start i → i < k → next ≡ matching blocks 256 0 start most
+      → Sharing blocks k size next (start + size) (i + 1)
+  unfolding shared
+  sharing-more s h e =
+      record { place = rw (add-one, suc-mul, s .place); within = omega arith; so-far = e ∙ rw (add-one, s .place, s .so-far) }
 
-  module _ {at i : ℕ} (s : Searched blocks k size r at i) where
-    -- the code compares the blocks of replicas i and r
-    compared : {t : Bool} → alike (part blocks at size) (part blocks (r * size) size) ≡ t
-        → alike (blockOf blocks size i) (blockOf blocks size r) ≡ t
-    compared e = rw (part-block blocks at size, part-block blocks (r * size) size, s .place) at e
+  module _ {most start i : ℕ} (s : Sharing blocks k size most start i) where
+    -- the strides are within each block of m more
+    pub sharing-room : (m : ℕ) → i + m ≤ k → (start + m * size ≤ k * size) × (most * 256 ≤ size)
+    sharing-room m h =
+        let r : (i + m) * size ≤ k * size = mul-le-mul-right size h in
+        omega (arith, s .place, add-mul i m size, s .so-far, shared-le blocks size i)
 
-    -- replica i has the block
-    pub searched-found : i < r → alike (part blocks at size) (part blocks (r * size) size) ≡ true → i ≡ groupOf blocks k size r
-    searched-found h e = sym (s .rest ∙ first-found _ h (compared e))
+    -- two replicas more, and three
+    sharing-two : {next : ℕ} → i + 2 ≤ k → next ≡ matching blocks 256 0 (start + size) (matching blocks 256 0 start most)
+        → Sharing blocks k size next (start + size + size) (i + 1 + 1)
+    sharing-two h e = sharing-more (sharing-more s (omega arith) refl) (omega arith) e
 
-    -- replica i has another
-    pub searched-more : i < r → alike (part blocks at size) (part blocks (r * size) size) ≡ false
-        → Searched blocks k size r (at + size) (i + 1)
-    searched-more h e =
-        record { place = rw (add-one, suc-mul, s .place); within = omega arith; rest = s .rest ∙ first-past _ h (compared e) }
+    pub sharing-three : {next : ℕ} (j : ℕ) → j ≡ i + 1 + 1 + 1 → j ≤ k
+        → next ≡ matchingAll blocks 256 0 start (start + size) (start + size + size) most
+        → Sharing blocks k size next (start + size + size + size) j
+    sharing-three j q h e = rw q (sharing-more (sharing-two (omega arith) refl) (omega arith) e)
 
-    -- no replica before r has the block
-    pub searched-all : r ≤ i → r ≡ groupOf blocks k size r
-    searched-all h =
-        let e : r ≡ i = omega arith in
-        e ∙ sym (s .rest ∙ first-none _ h)
+    -- none is left, or one, or two
+    pub sharing-all : k ≤ i → most ≡ shared blocks size k
+    sharing-all h = let e : i ≡ k = omega (arith, s .within) in rw e at s .so-far
+
+    pub sharing-last : {r : ℕ} → i + 1 ≡ k → r ≡ matchingAll blocks 256 0 start start start most → r ≡ shared blocks size k
+    sharing-last h e = rw h at (sharing-more s (omega arith) (e ∙ matching-thrice blocks 256 0 start most) .so-far)
+
+    pub sharing-last-two : {r : ℕ} → i + 1 + 1 ≡ k → r ≡ matchingAll blocks 256 0 start (start + size) (start + size) most → r ≡ shared blocks size k
+    sharing-last-two h e =
+        rw h at (sharing-two (omega arith) (e ∙ matching-again blocks 256 0 (start + size) (matching blocks 256 0 start most)) .so-far)
 
 -- ---- groups
 
--- two tests are one where each follows from the other
-same-test : (s t : Bool) → (s ≡ true → t ≡ true) → (t ≡ true → s ≡ true) → s ≡ t
-same-test true t f g = sym (f refl)
-same-test false true f g = g refl
-same-test false false f g = refl
+-- the code compares what is left of two blocks
+pub rest-test : (blocks : List ℕ) (size from k at i : ℕ) {r t : Bool} → at ≡ i * size
+    → r ≡ alike (bytesAt blocks (size - from) (at + from)) (restOf blocks size from k) → r ≡ t → alike (restOf blocks size from i) (restOf blocks size from k) ≡ t
+rest-test blocks size from k at i e f h = rw (← e, ← f, h)
+
+-- a test of one entry
+pub instead-taken : (a b x : ℕ) → x ≡ a → b ≡ instead a b x
+instead-taken a b x e = rw (eq-eqb x a e, instead)
+
+pub instead-left : (a b x : ℕ) → x ≢ a → x ≡ instead a b x
+instead-left a b x e = rw (ne-eqb x a e, instead)
+
+module _ (blocks : List ℕ) (size : ℕ) where
+  -- the lowest alike is no higher than the replica
+  pub lowest-le : (i : ℕ) → lowest blocks size i ≤ i
+  lowest-le i = omega (arith, first-range (λ r. alike (blockOf blocks size r) (blockOf blocks size i)) 0 i)
+
+  -- the group of one of k replicas, and of another
+  group-in : (k i : ℕ) → i < k → groupOf blocks k size i ≡ lowest blocks size i
+  group-in k i h = rw (lt-ltb i k h, groupOf)
+
+  group-out : (k i : ℕ) → k ≤ i → groupOf blocks k size i ≡ i
+  group-out k i h = rw (le-ltb i k h, groupOf)
+
+  -- a group's number changes only where the next replica joins
+  group-step : (i j : ℕ) → instead i (lowest blocks size i) (groupOf blocks i size j) ≡ groupOf blocks (i + 1) size j
+  group-step i j = go (decLt j i) (ℕ-discrete j i)
+    where
+      go : Dec (j < i) → Dec (j ≡ i) → instead i (lowest blocks size i) (groupOf blocks i size j) ≡ groupOf blocks (i + 1) size j
+      go (yes l) d =
+          let n : lowest blocks size j ≢ i = λ e. absurd (omega (arith, lowest-le j)) in
+          rw (group-in i j l, group-in (i + 1) j (omega arith)) (sym (instead-left i (lowest blocks size i) (lowest blocks size j) n))
+      go (no l) (yes e) =
+          rw
+          (e, group-out i i (omega arith), group-in (i + 1) i (omega arith))
+          (sym (instead-taken i (lowest blocks size i) i refl))
+      go (no l) (no d) =
+          rw (group-out i j (omega arith), group-out (i + 1) j (omega arith)) (sym (instead-left i (lowest blocks size i) j d))
+
+-- the groups of the first i of k replicas are known
+pub record Grouped (blocks : List ℕ) (k size : ℕ) (out : List ℕ) (i : ℕ) : Type 0 where
+  pub some : 0 < i
+  pub within : i ≤ k
+  pub few : k ≤ 16
+  pub so-far : out ≡ groupsOf blocks i size
+
+module _ {blocks : List ℕ} {k size : ℕ} where
+  -- replica 0 alone
+  pub grouped-none : 0 < k → k ≤ 16 → Grouped blocks k size (0 ∷ 1 ∷ 2 ∷ 3 ∷ 4 ∷ 5 ∷ 6 ∷ 7 ∷ 8 ∷ 9 ∷ 10 ∷ 11 ∷ 12 ∷ 13 ∷ 14 ∷ 15 ∷ []) 1
+  unfolding tabulate first
+  grouped-none h l = record { some = omega arith; within = omega arith; few = l; so-far = refl }
+
+  -- one replica more
+  pub grouped-more : {out next : List ℕ} {i v : ℕ} → Grouped blocks k size out i → i < k → v ≡ lowest blocks size i
+      → next ≡ tabulate (λ j. instead i v (getD out j 0)) 0 16 → Grouped blocks k size next (i + 1)
+  grouped-more {i = i} {v = v} g h e q =
+      record {
+        some = omega arith;
+        within = omega arith;
+        few = g .few;
+        so-far =
+            q
+            ∙ rw
+            (g .so-far, e)
+            (tabulate-same
+            (λ j. instead i (lowest blocks size i) (getD (groupsOf blocks i size) j 0))
+            (groupOf blocks (i + 1) size)
+            0
+            16
+            (λ j l. rw (tabulate-at (groupOf blocks i size) 0 16 j (omega arith)) (group-step blocks size i j)));
+      }
+
+  -- all replicas
+  pub grouped-all : {out : List ℕ} {i : ℕ} → Grouped blocks k size out i → k ≤ i → out ≡ groupsOf blocks k size
+  grouped-all {i = i} g h = let e : i ≡ k = omega (arith, g .within) in rw e at g .so-far
+
+-- ---- the table
 
 module _ (blocks : List ℕ) (k size : ℕ) where
-  group-first : (i : ℕ) → i < k → groupOf blocks k size i ≡ first (hasBlock blocks size (blockOf blocks size i)) 0 i
-  unfolding groupOf
-  group-first i h = rw (lt-ltb i k h, groupOf)
-
   -- a search for the block of replica i finds it
-  finds : (block : List ℕ) (i : ℕ) → blockOf blocks size i ≡ block → hasBlock blocks size block (first (hasBlock blocks size block) 0 i) ≡ true
-  finds block i e = first-holds (hasBlock blocks size block) 0 i (rw (zero-add, e) (alike-self block))
+  finds : (block : List ℕ) (i : ℕ) → blockOf blocks size i ≡ block
+      → alike (blockOf blocks size (first (λ r. alike (blockOf blocks size r) block) 0 i)) block ≡ true
+  finds block i e = first-holds (λ r. alike (blockOf blocks size r) block) 0 i (rw (zero-add, e) (alike-self block))
 
   -- the lowest replica of a group has the group's block
-  group-block : (i : ℕ) → i < k → blockOf blocks size (groupOf blocks k size i) ≡ blockOf blocks size i
-  group-block i h = rw (group-first i h) (alike-equal _ _ (finds (blockOf blocks size i) i refl))
+  group-block : (i : ℕ) → blockOf blocks size (lowest blocks size i) ≡ blockOf blocks size i
+  group-block i = alike-equal _ _ (finds (blockOf blocks size i) i refl)
 
   -- replicas with one block are of one group
-  group-same : (i j : ℕ) → i < k → j < k → blockOf blocks size i ≡ blockOf blocks size j
-      → groupOf blocks k size i ≡ groupOf blocks k size j
-  group-same i j h l e =
-      let block = blockOf blocks size j in
-      rw (group-first i h, group-first j l, e) (first-same (hasBlock blocks size block) 0 i j (finds block i e) (finds block j refl))
+  group-same : (i j : ℕ) → blockOf blocks size i ≡ blockOf blocks size j → lowest blocks size i ≡ lowest blocks size j
+  group-same i j e =
+      let block : List ℕ = blockOf blocks size j in
+      let test : ℕ → Bool = λ r. alike (blockOf blocks size r) block in
+      rw e (first-same test 0 i j (finds block i e) (finds block j refl))
 
   -- to be of one group is to have blocks that are alike
-  groups-alike : (i j : ℕ) → i < k → j < k
-      → eqb (groupOf blocks k size i) (groupOf blocks k size j) ≡ alike (blockOf blocks size i) (blockOf blocks size j)
-  groups-alike i j h l =
+  groups-alike : (i j : ℕ) → eqb (lowest blocks size i) (lowest blocks size j) ≡ alike (blockOf blocks size i) (blockOf blocks size j)
+  groups-alike i j =
       same-test
       _
       _
       (λ e.
-      let g : groupOf blocks k size i ≡ groupOf blocks k size j = eqb-true _ _ e in
-      let q : blockOf blocks size i ≡ blockOf blocks size j = sym (group-block i h) ∙ rw g (group-block j l) in
+      let g : lowest blocks size i ≡ lowest blocks size j = eqb-true _ _ e in
+      let q : blockOf blocks size i ≡ blockOf blocks size j = sym (group-block i) ∙ rw g (group-block j) in
       rw q (alike-self (blockOf blocks size j)))
-      (λ e. eq-eqb _ _ (group-same i j h l (alike-equal _ _ e)))
+      (λ e. eq-eqb _ _ (group-same i j (alike-equal _ _ e)))
 
-  -- to be of one group is to agree
-  together-agree : (i j : ℕ) → i < 16 → j < 16 → together (groupsOf blocks k size) k i j ≡ agree blocks k size i j
-  together-agree i j h l =
+  -- to be of the group of one of the replicas is to agree with it
+  together-agree : (i j : ℕ) → i < k → i < 16 → j < 16 → together (groupsOf blocks k size) i j ≡ agree blocks k size i j
+  together-agree i j h l m =
       rw
-      (tabulate-at (groupOf blocks k size) 0 16 i h, tabulate-at (groupOf blocks k size) 0 16 j l)
-      (go (ltb i k) (ltb j k) refl refl)
+      (tabulate-at (groupOf blocks k size) 0 16 i l, tabulate-at (groupOf blocks k size) 0 16 j m, group-in blocks size k i h, lt-ltb i k h)
+      (go (decLt j k))
     where
-      go : (s t : Bool) → ltb i k ≡ s → ltb j k ≡ t
-          → s && t && eqb (groupOf blocks k size i) (groupOf blocks k size j) ≡ s && t && alike (blockOf blocks size i) (blockOf blocks size j)
-      go true true p q = groups-alike i j (ltb-true i k p) (ltb-true j k q)
-      go true false p q = refl
-      go false t p q = refl
+      go : Dec (j < k) → eqb (lowest blocks size i) (groupOf blocks k size j) ≡ ltb j k && alike (blockOf blocks size i) (blockOf blocks size j)
+      go (yes n) = rw (group-in blocks size k j n, lt-ltb j k n) (groups-alike i j)
+      go (no n) = rw (group-out blocks size k j (omega arith), le-ltb j k (omega arith)) (ne-eqb (lowest blocks size i) j (λ e. absurd (omega (arith, lowest-le blocks size i))))
 
-  -- the table of groups is the table of agreements
-  pub groups-agreements : tabulate (λ i. tabulate (together (groupsOf blocks k size) k i) 0 16) 0 16 ≡ agreements blocks k size
-  groups-agreements = tabulate-same _ _ 0 16 (λ i h. tabulate-same _ _ 0 16 (λ j l. together-agree i j h l))
+  -- a replica past the others agrees with none
+  alone : (i : ℕ) → k ≤ i → replicate 16 false ≡ tabulate (agree blocks k size i) 0 16
+  unfolding tabulate
+  alone i h = tabulate-same (λ j. false) (agree blocks k size i) 0 16 (λ j l. rw (le-ltb i k h))
+
+  -- the rows of the replicas, and no other
+  pub groups-agreements : {out : List (List Bool)} {groups : List ℕ} {i : ℕ} → groups ≡ groupsOf blocks k size → k ≤ 16 → i ≡ k
+      → Filled (λ r. tabulate (together groups r) 0 16) (replicate 16 false) out i → out ≡ agreements blocks k size
+  groups-agreements {groups = groups} e h q filled =
+      filled-to
+      filled
+      (λ r. tabulate (agree blocks k size r) 0 16)
+      (λ r l. rw e (tabulate-same (together (groupsOf blocks k size) r) (agree blocks k size r) 0 16 (λ j m. together-agree r j (omega arith) (omega arith) (omega arith))))
+      (λ r l. alone r (omega arith))

@@ -33,6 +33,16 @@ module _ {A : Type 0} (f : ℕ → A) where
   store i zero (x ∷ d) h = rw add-zero
   store i (suc n) (x ∷ d) h = ap (λ (r : List A). f i ∷ r) (rw (add-suc, ← suc-add) (store (suc i) n d (le-of-suc-le-suc h)))
 
+-- entries at the front of a list of one value
+front : {A : Type 0} (f g : ℕ → A) (a : A) (i n m : ℕ) → n ≤ m → ((j : ℕ) → i ≤ j → j < i + n → f j ≡ g j) → ((j : ℕ) → i + n ≤ j → a ≡ g j)
+    → tabulate f i n ++ drop n (replicate m a) ≡ tabulate g i m
+unfolding tabulate
+front f g a i zero zero h p q = refl
+front f g a i zero (suc m) h p q = ap₂ _∷_ (q i (omega arith)) (front f g a (suc i) zero m (omega arith) (λ j o l. absurd (omega arith)) (λ j l. q j (omega arith)))
+front f g a i (suc n) zero h p q = absurd (not-suc-le-zero h)
+front f g a i (suc n) (suc m) h p q =
+    ap₂ _∷_ (p i (omega arith) (omega arith)) (front f g a (suc i) n m (le-of-suc-le-suc h) (λ j o l. p j (omega arith) (omega arith)) (λ j l. q j (omega arith)))
+
 -- an array of sixteen, at first all a, of which the first n entries are those of f
 pub record Filled {A : Type 0} (f : ℕ → A) (a : A) (out : List A) (n : ℕ) : Type 0 where
   pub within : n ≤ 16
@@ -57,3 +67,7 @@ module _ {A : Type 0} {f : ℕ → A} {a : A} where
     pub filled-all : 16 ≤ n → out ≡ tabulate f 0 16
     unfolding tabulate
     filled-all h = let e : n ≡ 16 = omega arith in filled .entries ∙ rw e
+
+    -- some filled, and the others as they were
+    pub filled-to : (g : ℕ → A) → ((j : ℕ) → j < n → f j ≡ g j) → ((j : ℕ) → n ≤ j → a ≡ g j) → out ≡ tabulate g 0 16
+    filled-to g p q = filled .entries ∙ front f g a 0 n 16 (filled .within) (λ j o l. p j (omega arith)) (λ j l. q j (omega arith))

@@ -1,17 +1,17 @@
 -- Rows as digits, and the leader of a table.
 use Prim.Native.Nat.{ℕ, zero, suc, _+_, _*_, _/_, _%_, _^_, _-_, _≤_, _<_}
-use native.Mathlib.Nat.{mul-le-mul-right, pow-suc, pow-succ', div-div-eq-div-mul, zero-div}
+use native.Mathlib.Nat.{mul-zero, mul-le-mul-right, pow-suc, pow-succ', div-div-eq-div-mul, zero-div}
 use native.Mathlib.Numerals.{add-one}
 use native.Mathlib.Omega.{arith}
-use mathlib.Core.Path.{_≡_, refl, ap, _∙_}
+use mathlib.Core.Path.{_≡_, refl, sym, ap, _∙_}
 use mathlib.Core.Bool.{Bool, true, false, cond}
 use mathlib.Core.List.{List, [], _∷_}
-use lib.ListN.{length, getD, drop, length-drop, drop-of-length-le}
-use lib.Seq.{drop-cons}
+use lib.ListN.{length, getD, take, drop, length-take, length-drop, drop-of-length-le}
+use lib.Seq.{drop-cons, getD-take, take-all}
 use lib.Pow.{pow-mono}
 use lib.Dec.{ltb}
 use borrow.Author.Tests.{lt-ltb, le-ltb}
-use Rattle.vote.specs.Decide.{digits, leader, votes, maskOf}
+use Rattle.vote.specs.Decide.{tabulate, digits, leader, votes, maskOf}
 
 -- ---- digits
 
@@ -38,41 +38,67 @@ mask-bit (b ∷ row) (suc r) =
     let half : (cond b 1 0 + 2 * digits 2 row) / 2 ≡ digits 2 row = omega (arith, digit-le b) in
     rw (pow-succ', ← div-div-eq-div-mul, half) (mask-bit row r)
 
--- the digits of a row of sixteen from replica i on
-pub record Summed (base : ℕ) (row : List Bool) (sum i : ℕ) : Type 0 where
+-- a tabulated row that says yes to none, and one that does only at first
+digits-none : (base : ℕ) (f : ℕ → Bool) (i m : ℕ) → ((j : ℕ) → i ≤ j → f j ≡ false) → digits base (tabulate f i m) ≡ 0
+unfolding digits tabulate
+digits-none base f i zero h = refl
+digits-none base f i (suc m) h = rw (h i (omega arith), digits-none base f (suc i) m (λ j l. h j (omega arith)), mul-zero)
+
+pub digits-front : (base : ℕ) (f : ℕ → Bool) (i n m : ℕ) → ((j : ℕ) → i + n ≤ j → f j ≡ false)
+    → digits base (take n (tabulate f i m)) ≡ digits base (tabulate f i m)
+unfolding digits tabulate
+digits-front base f i zero m h = sym (digits-none base f i m (λ j l. h j (omega arith)))
+digits-front base f i (suc n) zero h = refl
+digits-front base f i (suc n) (suc m) h =
+    ap (λ (d : ℕ). cond (f i) 1 0 + base * d) (digits-front base f (suc i) n m (λ j l. h j (omega arith)))
+
+-- the digits of the first n of a row of sixteen, from replica i on
+pub record Summed (base : ℕ) (row : List Bool) (n sum i : ℕ) : Type 0 where
   pub sixteen : length row ≡ 16
-  pub within : i ≤ 16
-  pub so-far : sum ≡ digits base (drop i row)
+  pub few : n ≤ 16
+  pub within : i ≤ n
+  pub so-far : sum ≡ digits base (drop i (take n row))
 
-module _ {base : ℕ} {row : List Bool} where
+module _ {base : ℕ} {row : List Bool} {n : ℕ} where
   -- none summed yet
-  pub summed-none : length row ≡ 16 → Summed base row 0 16
+  pub summed-none : length row ≡ 16 → n ≤ 16 → Summed base row n 0 n
   unfolding digits
-  summed-none e = record { sixteen = e; within = omega arith; so-far = rw (drop-of-length-le row {i = 16} (omega arith)) }
+  summed-none e h =
+      let l : length (take n row) ≤ n = simp length-take (omega arith) in
+      record { sixteen = e; few = h; within = omega arith; so-far = rw (drop-of-length-le (take n row) l) }
 
-  module _ {sum i : ℕ} (s : Summed base row sum i) where
+  module _ {sum i : ℕ} (s : Summed base row n sum i) where
     -- the next sum fits
     pub summed-fits : base ≤ 2 → base * sum + 1 < 2 ^ 32
     summed-fits h =
-        let few : 2 ^ length (drop i row) ≤ 2 ^ 16 = pow-mono {j = 16} (simp length-drop (omega arith)) in
+        let few : 2 ^ length (drop i (take n row)) ≤ 2 ^ 16 =
+        pow-mono {j = 16} (simp (length-drop, length-take) (omega (arith, s .few))) in
         let twice : base * sum ≤ 2 * sum = mul-le-mul-right sum h in
-        omega (arith, digits-lt base (drop i row) h)
+        omega (arith, digits-lt base (drop i (take n row)) h, s .so-far)
 
     -- one digit more
-    pub summed-more : {next : ℕ} → 0 < i → next ≡ cond (getD row (i - 1) false) 1 0 + base * sum → Summed base row next (i - 1)
+    pub summed-more : {next : ℕ} → 0 < i → next ≡ cond (getD row (i - 1) false) 1 0 + base * sum → Summed base row n next (i - 1)
     unfolding digits
     summed-more h e =
-        let l : i - 1 < length row = omega arith in
+        let l : i - 1 < length (take n row) = simp length-take (omega (arith, s .few, s .sixteen, s .within)) in
         let p : suc (i - 1) ≡ i = omega arith in
         record {
           sixteen = s .sixteen;
-          within = omega arith;
-          so-far = e ∙ rw (s .so-far, drop-cons row (i - 1) false l, ap (λ (n : ℕ). drop n row) p);
+          few = s .few;
+          within = omega (arith, s .within);
+          so-far =
+              e
+              ∙ rw (
+                s .so-far,
+                drop-cons (take n row) (i - 1) false l,
+                getD-take n row (i - 1) false (omega (arith, s .within)),
+                ap (λ (k : ℕ). drop k (take n row)) p,
+              );
         }
 
     -- all summed
-    pub summed-all : i ≤ 0 → sum ≡ digits base row
-    summed-all h = let z : i ≡ 0 = omega arith in rw z at s .so-far
+    pub summed-all : i ≤ 0 → (sum ≡ digits base (take n row)) × (take 16 row ≡ row)
+    summed-all h = let z : i ≡ 0 = omega arith in (rw z at s .so-far, take-all 16 row (omega (arith, s .sixteen)))
 
 -- ---- the leader
 
@@ -86,33 +112,81 @@ leader-le table (suc n) = go (ltb (votes (getD table (leader table n) [])) (vote
     go true rest = omega arith
     go false rest = omega arith
 
+-- the votes of the leader of the first i replicas; of none, 0
+pub most : List (List Bool) → ℕ → ℕ
+most table zero = 0
+most table (suc i) = votes (getD table (leader table (suc i)) [])
+
 -- the leader of the first i of k replicas, with its votes
-pub record Led (table : List (List Bool)) (k best most i : ℕ) : Type 0 where
+pub record Led (table : List (List Bool)) (k best top i : ℕ) : Type 0 where
   pub within : i ≤ k
   pub first : best ≡ leader table i
-  pub has : most ≡ votes (getD table best [])
+  pub has : top ≡ most table i
+
+module _ (table : List (List Bool)) where
+  -- replica 0 leads the first
+  leader-one : leader table 1 ≡ 0
+  unfolding leader
+  leader-one = go (ltb (votes (getD table 0 [])) (votes (getD table 0 [])))
+    where
+      go : (t : Bool) → _≡_ {A = ℕ} (elim t [ true ↦ 0 | false ↦ 0 ]) 0
+      go true = refl
+      go false = refl
+
+  -- a replica with more votes leads, with as many at most it does not
+  leader-new : (i top : ℕ) → top ≡ most table i → top < votes (getD table i []) → leader table (suc i) ≡ i
+  unfolding leader most
+  leader-new zero top h l = leader-one
+  leader-new (suc i) top h l = rw (lt-ltb _ _ (rw h at l), leader)
+
+  leader-old : (i top : ℕ) → top ≡ most table i → votes (getD table i []) ≤ top → leader table (suc i) ≡ leader table i
+  unfolding leader most
+  leader-old zero top h l = leader-one
+  leader-old (suc i) top h l = rw (le-ltb _ _ (rw h at l), leader)
+
+  most-old : (i top : ℕ) → top ≡ most table i → votes (getD table i []) ≤ top → top ≡ most table (suc i)
+  unfolding leader most
+  most-old zero top h l = let z : top ≡ votes (getD table 0 []) = omega arith in rw leader-one z
+  most-old (suc i) top h l = rw (leader-old (suc i) top h l) h
 
 module _ {table : List (List Bool)} {k : ℕ} where
   -- none counted yet
-  pub led-none : {most : ℕ} → most ≡ votes (getD table 0 []) → Led table k 0 most 0
-  unfolding leader
-  led-none e = record { within = omega arith; first = refl; has = e }
+  pub led-none : Led table k 0 0 0
+  unfolding leader most
+  led-none = record { within = omega arith; first = refl; has = refl }
 
-  module _ {best most i : ℕ} (l : Led table k best most i) (h : i < k) {v : ℕ} (e : v ≡ votes (getD table i [])) where
-    -- the code compares the votes of the leader and of replica i
-    test : ltb (votes (getD table (leader table i) [])) (votes (getD table i [])) ≡ ltb most v
-    test = rw (← l .first, ← l .has, ← e)
-
+  module _ {best top i : ℕ} (l : Led table k best top i) (h : i < k) {v : ℕ} (e : v ≡ votes (getD table i [])) where
     -- replica i has more
-    pub led-new : most < v → Led table k i v (i + 1)
-    unfolding leader
-    led-new m = record { within = omega arith; first = rw (add-one, test, lt-ltb most v m, leader); has = e }
+    pub led-new : top < v → Led table k i v (i + 1)
+    unfolding most
+    led-new m =
+        let n : leader table (suc i) ≡ i = leader-new table i top (l .has) (rw e at m) in
+        record { within = omega arith; first = rw (add-one, n); has = rw (add-one, n) e }
 
     -- it has no more
-    pub led-old : v ≤ most → Led table k best most (i + 1)
-    unfolding leader
-    led-old m = record { within = omega arith; first = rw (add-one, test, le-ltb most v m, leader) (l .first); has = l .has }
+    pub led-old : v ≤ top → Led table k best top (i + 1)
+    led-old m =
+        let o : votes (getD table i []) ≤ top = rw e at m in
+        record {
+          within = omega arith;
+          first = rw (add-one, leader-old table i top (l .has) o) (l .first);
+          has = rw add-one (most-old table i top (l .has) o);
+        }
 
-  -- all counted
-  pub led-all : {best most i : ℕ} → Led table k best most i → k ≤ i → best ≡ leader table k
-  led-all {i = i} l h = let e : i ≡ k = omega arith in rw e at l .first
+  -- all counted: the leader, with its votes
+  pub led-all : {best top i : ℕ} → Led table k best top i → k ≤ i → 0 < k
+      → (best ≡ leader table k) × (top ≡ votes (getD table (leader table k) []))
+  unfolding most
+  led-all {i = i} l h p = let e : i ≡ k = omega (arith, l .within) in (rw e at l .first, (rw e at l .has) ∙ some k p)
+    where
+      some : (k : ℕ) → 0 < k → most table k ≡ votes (getD table (leader table k) [])
+      some zero p = absurd (omega arith)
+      some (suc k) p = refl
+
+  -- which is one of the replicas
+  pub led-small : {best top i : ℕ} → Led table k best top i → k ≤ i → 0 < k → best < k
+  led-small l h p = omega (arith, led-all l h p .0, leader-le table k)
+
+-- a row is counted whole
+pub counted : (row : List Bool) {v : ℕ} → v ≡ digits 1 (take 16 row) → take 16 row ≡ row → v ≡ votes row
+counted row e w = e ∙ ap (digits 1) w

@@ -1,24 +1,74 @@
--- How comparing goes about its work: agreement goes by content, so each replica is known by the lowest one with the same block. What the
--- vote promises rests on `Decide` alone.
-use Prim.Native.Nat.{ℕ}
-use mathlib.Core.Bool.{Bool, true, false, _&&_}
-use mathlib.Core.List.{List}
-use lib.ListN.{getD}
+-- How comparing and counting go about their work. What the vote promises rests on `Decide` alone.
+use Prim.Native.Nat.{ℕ, zero, suc, _+_, _*_, _-_, _/_}
+use mathlib.Core.Bool.{Bool, true, false, not, _&&_}
+use mathlib.Core.List.{List, []}
+use lib.ListN.{getD, take, drop}
 use lib.Dec.{ltb, eqb}
 use Rattle.search.specs.First.{first}
-use Rattle.vote.specs.Decide.{blockOf, alike, tabulate}
+use Rattle.vote.specs.declared.elect.Elected.{Elected}
+use Rattle.vote.specs.Decide.{blockOf, alike, tabulate, digits, votes, leader}
 
--- whether replica i has a block
-abbrev pub hasBlock : List ℕ → ℕ → List ℕ → ℕ → Bool
-hasBlock blocks size block i = alike (blockOf blocks size i) block
+-- ---- what all blocks share
 
--- the lowest replica with the block of replica i; past the k replicas it is i itself
-unfoldable pub groupOf : List ℕ → ℕ → ℕ → ℕ → ℕ
-groupOf blocks k size i = elim (ltb i k) [ true ↦ first (hasBlock blocks size (blockOf blocks size i)) 0 i | false ↦ i ]
+-- the n bytes at a place
+abbrev pub bytesAt : List ℕ → ℕ → ℕ → List ℕ
+bytesAt blocks n at = take n (drop at blocks)
+
+-- the bytes at three places are those at the first
+abbrev pub allAlike : List ℕ → ℕ → ℕ → ℕ → ℕ → ℕ → Bool
+allAlike blocks n a b c d =
+    alike (bytesAt blocks n a) (bytesAt blocks n b) && (alike (bytesAt blocks n a) (bytesAt blocks n c) && alike (bytesAt blocks n a) (bytesAt blocks n d))
+
+-- the n-th strides at two places differ
+abbrev pub differ : List ℕ → ℕ → ℕ → ℕ → ℕ → Bool
+differ blocks stride a b n = not (alike (bytesAt blocks stride (a + n * stride)) (bytesAt blocks stride (b + n * stride)))
+
+-- how many strides from the first on are the same at two places, of `most`, and at four
+abbrev pub matching : List ℕ → ℕ → ℕ → ℕ → ℕ → ℕ
+matching blocks stride a b most = first (differ blocks stride a b) 0 most
+
+abbrev pub matchingAll : List ℕ → ℕ → ℕ → ℕ → ℕ → ℕ → ℕ → ℕ
+matchingAll blocks stride a b c d most = matching blocks stride a d (matching blocks stride a c (matching blocks stride a b most))
+
+-- how many strides of 256 bytes from the first on are the same in the first k replicas
+unfoldable pub shared : List ℕ → ℕ → ℕ → ℕ
+shared blocks size zero = size / 256
+shared blocks size (suc i) = matching blocks 256 0 (i * size) (shared blocks size i)
+
+-- ---- groups: agreement goes by content, so each replica is known by the lowest one with the same block
+
+-- the block of replica i from byte `from` on
+abbrev pub restOf : List ℕ → ℕ → ℕ → ℕ → List ℕ
+restOf blocks size from i = bytesAt blocks (size - from) (i * size + from)
+
+-- the lowest replica with the bytes of replica i from byte `from` on
+abbrev pub lowestFrom : List ℕ → ℕ → ℕ → ℕ → ℕ
+lowestFrom blocks size from i = first (λ r. alike (restOf blocks size from r) (restOf blocks size from i)) 0 i
+
+-- the lowest replica with the block of replica i
+abbrev pub lowest : List ℕ → ℕ → ℕ → ℕ
+lowest blocks size i = first (λ r. alike (blockOf blocks size r) (blockOf blocks size i)) 0 i
+
+-- of the first k replicas the lowest with the same block; any other is alone
+abbrev pub groupOf : List ℕ → ℕ → ℕ → ℕ → ℕ
+groupOf blocks k size i = elim (ltb i k) [ true ↦ lowest blocks size i | false ↦ i ]
 
 abbrev pub groupsOf : List ℕ → ℕ → ℕ → List ℕ
 groupsOf blocks k size = tabulate (groupOf blocks k size) 0 16
 
--- replicas i and j, both of the first k, are of one group
-abbrev pub together : List ℕ → ℕ → ℕ → ℕ → Bool
-together groups k i j = ltb i k && ltb j k && eqb (getD groups i 0) (getD groups j 0)
+-- b in the place of a, and anything else as it is
+abbrev pub instead : ℕ → ℕ → ℕ → ℕ
+instead a b x = elim (eqb x a) [ true ↦ b | false ↦ x ]
+
+-- replicas i and j are of one group
+abbrev pub together : List ℕ → ℕ → ℕ → Bool
+together groups i j = eqb (getD groups i 0) (getD groups j 0)
+
+-- ---- the winner
+
+-- the leader of the first k replicas, with its votes and the mask of these; k is above 0
+abbrev pub electedOf : List (List Bool) → ℕ → Elected
+electedOf table k =
+    let best : ℕ = leader table k in
+    let row : List Bool = getD table best [] in
+    record { replica = best; count = votes row; mask = digits 2 (take k row) }

@@ -1,83 +1,172 @@
 // Comparing: the table of which two replicas agree.
 ghost use mathlib.Core.Path.{_≡_};
-ghost use Prim.Native.Nat.{_*_, _<_};
-ghost use lib.ListN.{length};
+ghost use Prim.Native.Nat.{_+_, _*_, _≤_, _<_};
+ghost use lib.ListN.{length, getD};
 ghost use Rattle.vote.specs.Decide.{alike, tabulate, agreements};
-ghost use Rattle.vote.specs.Groups.{groupOf, groupsOf, together};
+ghost use Rattle.vote.specs.Groups.{bytesAt, allAlike, matchingAll, shared, lowestFrom, instead, groupsOf, together};
 
-// Whether two blocks hold the same bytes. The loop has no early exit, so that it vectorises.
-fn same(a: &[u8], b: &[u8]) -> bool
-    requires { ⌜ length (now a) ≡ length (now b) ⌝ }
-    ensures { λ r. ⌜ r ≡ alike (now (a .entry)) (now (b .entry)) ⌝ }
+// Blocks are compared a stride at a time; a block under a stride, by shorter ones.
+const STRIDE: usize = 256;
+
+const SHORT_STRIDE: usize = 16;
+
+// Whether the n bytes at three places are those at the first. It has no early exit, so that it is vector code, without a loop where n is known;
+// and it reads the first once for three. Where a place is passed twice the compiler compares it once.
+fn folded(blocks: &[u8], n: usize, a: usize, b: usize, c: usize, d: usize) -> bool
+    requires { ⌜ (a + n ≤ length (now blocks)) × (b + n ≤ length (now blocks)) × (c + n ≤ length (now blocks)) × (d + n ≤ length (now blocks)) ⌝ }
+    ensures { λ r. ⌜ r ≡ allAlike (now (blocks .entry)) n a b c d ⌝ }
 {
     let mut differ: u8 = 0;
-    let mut i = 0;
-    while i < a.len() {
-        differ |= a[i] ^ b[i];
+    let mut i: usize = 0;
+    while i < n {
+        let x = blocks[a + i];
+        differ |= x ^ blocks[b + i] | x ^ blocks[c + i] | x ^ blocks[d + i];
         i += 1;
     }
     differ == 0
 }
 
-// The lowest replica with the same block as this one; a replica that takes no part is alone.
-fn lowest_alike(blocks: &[u8], replicas: usize, block_len: usize, replica: usize) -> usize
-    requires { ⌜ length (now blocks) ≡ replicas * «block_len» ⌝ }
-    ensures { λ r. ⌜ r ≡ groupOf (now (blocks .entry)) replicas «block_len» replica ⌝ }
+// How many strides from the first on are the same at four places, of `most`.
+fn matching(
+    blocks: &[u8],
+    stride: usize,
+    most: usize,
+    a: usize,
+    b: usize,
+    c: usize,
+    d: usize,
+) -> usize
+    requires { ⌜ (a + most * stride ≤ length (now blocks)) × (b + most * stride ≤ length (now blocks)) × (c + most * stride ≤ length (now blocks)) × (d + most * stride ≤ length (now blocks)) ⌝ }
+    ensures { λ r. ⌜ r ≡ matchingAll (now (blocks .entry)) stride a b c d most ⌝ }
 {
-    if replicas <= replica {
-        return replica;
+    let mut at: usize = 0;
+    let mut n: usize = 0;
+    while n < most {
+        if folded(blocks, stride, a + at, b + at, c + at, d + at) {
+            at += stride;
+            n += 1;
+        } else {
+            return n;
+        }
     }
-    let start = replica * block_len;
-    let end = start + block_len;
-    let own = &blocks[start..end];
+    most
+}
+
+// Whether the n bytes at two places are the same, by strides. The last ends with them and may overlap the one before, so that all have one length.
+fn strided(blocks: &[u8], stride: usize, n: usize, a: usize, b: usize) -> bool
+    requires { ⌜ (0 < stride) × (stride ≤ n) × (a + n ≤ length (now blocks)) × (b + n ≤ length (now blocks)) ⌝ }
+    ensures { λ r. ⌜ r ≡ alike (bytesAt (now (blocks .entry)) n a) (bytesAt (now (blocks .entry)) n b) ⌝ }
+{
+    let most = (n - 1) / stride;
+    if matching(blocks, stride, most, a, b, b, b) < most {
+        return false;
+    }
+    let last = n - stride;
+    folded(blocks, stride, a + last, b + last, b + last, b + last)
+}
+
+fn same(blocks: &[u8], n: usize, a: usize, b: usize) -> bool
+    requires { ⌜ (a + n ≤ length (now blocks)) × (b + n ≤ length (now blocks)) ⌝ }
+    ensures { λ r. ⌜ r ≡ alike (bytesAt (now (blocks .entry)) n a) (bytesAt (now (blocks .entry)) n b) ⌝ }
+{
+    if n < SHORT_STRIDE {
+        return folded(blocks, n, a, b, b, b);
+    }
+    if n < STRIDE {
+        return strided(blocks, SHORT_STRIDE, n, a, b);
+    }
+    strided(blocks, STRIDE, n, a, b)
+}
+
+// How many strides from the first on are the same in all blocks. These are compared with replica 0 alone, each as far as those before it match.
+fn shared(blocks: &[u8], replicas: usize, block_len: usize) -> usize
+    requires { ⌜ (length (now blocks) ≡ replicas * «block_len») × (0 < replicas) ⌝ }
+    ensures { λ r. ⌜ r ≡ shared (now (blocks .entry)) «block_len» replicas ⌝ }
+{
+    let mut most = block_len / STRIDE;
+    let mut b: usize = block_len;
+    let mut left = replicas - 1;
+    while 3 <= left {
+        let c = b + block_len;
+        let d = c + block_len;
+        most = matching(blocks, STRIDE, most, 0, b, c, d);
+        b = d + block_len;
+        left -= 3;
+    }
+    if left == 0 {
+        return most;
+    }
+    if left == 1 {
+        return matching(blocks, STRIDE, most, 0, b, b, b);
+    }
+    let c = b + block_len;
+    matching(blocks, STRIDE, most, 0, b, c, c)
+}
+
+// The lowest replica that has the same bytes as this one from byte `from` on.
+fn lowest_alike(blocks: &[u8], block_len: usize, from: usize, replica: usize) -> usize
+    requires { ⌜ (replica * «block_len» + «block_len» ≤ length (now blocks)) × (from ≤ «block_len») ⌝ }
+    ensures { λ r. ⌜ r ≡ lowestFrom (now (blocks .entry)) «block_len» from replica ⌝ }
+{
+    let rest = block_len - from;
+    let own = replica * block_len + from;
     let mut at: usize = 0;
     let mut i = 0;
     while i < replica {
-        let next = at + block_len;
-        if same(&blocks[at..next], own) {
+        if same(blocks, rest, at + from, own) {
             return i;
         }
-        at = next;
+        at += block_len;
         i += 1;
     }
     replica
 }
 
+fn instead(a: u8, b: u8, x: u8) -> u8
+    ensures { λ r. ⌜ r ≡ instead a b x ⌝ }
+{
+    if x == a { b } else { x }
+}
+
+// Every entry anew, and not one store: what is stored by bytes is slow to load as one vector.
+fn replaced(old: [u8; 16], a: u8, b: u8) -> [u8; 16]
+    ensures { λ r. ⌜ r ≡ tabulate (λ j. instead a b (getD old j 0)) 0 16 ⌝ }
+{
+    let mut out = [0u8; 16];
+    let mut j: usize = 0;
+    while j < 16 {
+        out[j] = instead(a, b, old[j]);
+        j += 1;
+    }
+    out
+}
+
 // Of each replica the lowest alike. Two agree where these are equal, and a replica is compared with earlier ones only until one is alike.
-fn groups(blocks: &[u8], replicas: usize, block_len: usize) -> [usize; 16]
-    requires { ⌜ length (now blocks) ≡ replicas * «block_len» ⌝ }
+fn groups(blocks: &[u8], replicas: usize, block_len: usize) -> [u8; 16]
+    requires { ⌜ (length (now blocks) ≡ replicas * «block_len») × (0 < replicas) × (replicas ≤ 16) ⌝ }
     ensures { λ r. ⌜ r ≡ groupsOf (now (blocks .entry)) replicas «block_len» ⌝ }
 {
-    let mut out = [0usize; 16];
-    let mut i: usize = 0;
-    while i < 16 {
-        out[i] = lowest_alike(blocks, replicas, block_len, i);
+    let from = shared(blocks, replicas, block_len) * STRIDE;
+    let mut out = [0u8, 1, 2, 3, 4, 5, 6, 7, 8, 9, 10, 11, 12, 13, 14, 15];
+    let mut i: usize = 1;
+    while i < replicas {
+        let lowest = lowest_alike(blocks, block_len, from, i);
+        let next = replaced(out, i as u8, lowest as u8);
+        out = next;
         i += 1;
     }
     out
 }
 
-fn is_together(groups: [usize; 16], replicas: usize, i: usize, j: usize) -> bool
-    requires { ⌜ (i < 16) × (j < 16) ⌝ }
-    ensures { λ r. ⌜ r ≡ together groups replicas i j ⌝ }
-{
-    if replicas <= i {
-        return false;
-    }
-    if replicas <= j {
-        return false;
-    }
-    groups[i] == groups[j]
-}
-
-fn row(groups: [usize; 16], replicas: usize, i: usize) -> [bool; 16]
+fn row(groups: [u8; 16], i: usize) -> [bool; 16]
     requires { ⌜ i < 16 ⌝ }
-    ensures { λ r. ⌜ r ≡ tabulate (together groups replicas i) 0 16 ⌝ }
+    ensures { λ r. ⌜ r ≡ tabulate (together groups i) 0 16 ⌝ }
 {
+    let own = groups[i];
     let mut out = [false; 16];
     let mut j: usize = 0;
     while j < 16 {
-        out[j] = is_together(groups, replicas, i, j);
+        out[j] = own == groups[j];
         j += 1;
     }
     out
@@ -85,15 +174,18 @@ fn row(groups: [usize; 16], replicas: usize, i: usize) -> [bool; 16]
 
 // The table of which two replicas agree; false outside the first `replicas`.
 pub fn agreements(blocks: &[u8], replicas: usize, block_len: usize) -> [[bool; 16]; 16]
-    requires { ⌜ length (now blocks) ≡ replicas * «block_len» ⌝ }
+    requires { ⌜ (length (now blocks) ≡ replicas * «block_len») × (0 < replicas) × (replicas ≤ 16) ⌝ }
     ensures { λ r. ⌜ r ≡ agreements (now (blocks .entry)) replicas «block_len» ⌝ }
 {
     let groups = groups(blocks, replicas, block_len);
     let mut out = [[false; 16]; 16];
     let mut i: usize = 0;
-    while i < 16 {
-        out[i] = row(groups, replicas, i);
+    // Tested at the end: were it before, the compiler would keep a way for no replicas, and copy the table.
+    loop {
+        out[i] = row(groups, i);
         i += 1;
+        if replicas <= i {
+            return out;
+        }
     }
-    out
 }

@@ -1,71 +1,54 @@
-use Prim.Native.Nat.{_+_, _*_, _-_, _≤_}
+use Prim.Native.Nat.{_+_, _-_, _≤_}
 use native.Mathlib.Omega.{arith}
-use mathlib.Core.Path.{_∙_, sym}
 use lib.ListN.{length}
-use Rattle.vote.proofs.Blocks.{part-length, block-within}
-use Rattle.vote.proofs.Lowest.{Searched, alone, searched-none, searched-found, searched-more, searched-all}
+use Rattle.vote.specs.Decide.{alike}
+use Rattle.vote.specs.Groups.{restOf}
+use Rattle.vote.proofs.Blocks.{block-within}
+use Rattle.vote.proofs.Search.{Searched, searched-none, searched-found, searched-more, searched-all}
+use Rattle.vote.proofs.Lowest.{rest-test}
 use Rattle.vote.proofs.compare.lowest_alike.Statement.{statement}
 use Rattle.vote.proofs.compare.lowest_alike.Tie as tie
 
 abbrev Inv-loop : tie.InvT-loop
-Inv-loop blocks replicas block-len replica start end own at₀ i₀ at i = Searched blocks replicas block-len replica at i
+Inv-loop blocks block-len from replica rest own at₀ i₀ at i =
+    Searched (λ r. alike (restOf blocks block-len from r) (restOf blocks block-len from replica)) block-len replica at i
 
 abbrev μ-loop : tie.MeasureT-loop
-μ-loop blocks replicas block-len replica start end own at₀ i₀ at i = replica - i
+μ-loop blocks block-len from replica rest own at₀ i₀ at i = replica - i
 
-returns : tie.Need-returns Inv-loop μ-loop
-returns c = alone _ _ _ _ (omega arith)
-
--- the replica's block is within the blocks
-own-within : (c : tie.Else1 Inv-loop μ-loop)
-    → let a = c .before .before .args in a .replica * a .block-len + a .block-len ≤ length (a .blocks .now)
-own-within c =
-    let a = c .before .before .args in
-    omega (arith, block-within (a .replica) (a .replicas) (a .block-len) (omega arith))
-
--- so is the next one
+-- a block before the replica's is within the blocks
 next-within : (c : tie.In-loop Inv-loop μ-loop)
-    → let a = c .before .before .before .before .before .args in c .before .loop .at + a .block-len ≤ length (a .blocks .now)
+    → let a = c .before .before .before .args in c .before .loop .at + a .block-len ≤ length (a .blocks .now)
 next-within c =
-    let a = c .before .before .before .before .before .args in
-    omega (arith, block-within (c .before .loop .i) (a .replicas) (a .block-len) (omega arith))
+    let a = c .before .before .before .args in
+    omega (arith, c .before .loop .inv .place, block-within (c .before .loop .i) (a .replica) (a .block-len) (omega arith))
 
-mul-start : tie.Need-mul-start Inv-loop μ-loop
-mul-start c = omega (arith, own-within c)
+sub-rest : tie.Need-sub-rest Inv-loop μ-loop
+sub-rest c = omega arith
 
-add-end : tie.Need-add-end Inv-loop μ-loop
-add-end c = omega (arith, own-within c)
+mul-own : tie.Need-mul-own Inv-loop μ-loop
+mul-own c = omega arith
 
-sub-own : tie.Need-sub-own Inv-loop μ-loop
-sub-own c = omega arith
-
-part-own-start : tie.Need-part-own-start Inv-loop μ-loop
-part-own-start c = omega arith
-
-part-own-end : tie.Need-part-own-end Inv-loop μ-loop
-part-own-end c = omega (arith, own-within c)
+add-own : tie.Need-add-own Inv-loop μ-loop
+add-own c = omega arith
 
 loop-holds : tie.Need-loop-holds Inv-loop μ-loop
-loop-holds c = searched-none (omega arith)
+loop-holds c = searched-none
 
-add-next : tie.Need-add-next Inv-loop μ-loop
-add-next c = omega (arith, next-within c)
-
-sub-same : tie.Need-sub-same Inv-loop μ-loop
-sub-same c = omega arith
-
-part-same-start : tie.Need-part-same-start Inv-loop μ-loop
-part-same-start c = omega arith
-
-part-same-end : tie.Need-part-same-end Inv-loop μ-loop
-part-same-end c = omega (arith, next-within c)
+add-same : tie.Need-add-same Inv-loop μ-loop
+add-same c = omega (arith, next-within c)
 
 same-requires : tie.Need-same-requires Inv-loop μ-loop
-same-requires c κs =
-    part-length _ _ _ (next-within (c .before)) ∙ sym (part-length _ _ _ (own-within (c .before .before .before .before)))
+same-requires c κs = omega (arith, next-within c)
 
-returns-2 : tie.Need-returns-2 Inv-loop μ-loop
-returns-2 c = searched-found (c .before .before .before .before .loop .inv) (omega arith) (sym (c .before .same .ensures) ∙ c .if2 .taken)
+returns : tie.Need-returns Inv-loop μ-loop
+returns c =
+    let a = c .before .before .before .before .before .args in
+    let s = c .before .before .before .loop .inv in
+    searched-found s (omega arith) (rest-test (a .blocks .now) (a .block-len) (a .from) (a .replica) _ _ (s .place) (c .before .same .ensures) (c .if1 .taken))
+
+add-at : tie.Need-add-at Inv-loop μ-loop
+add-at c = omega (arith, next-within (c .before .before))
 
 add-i : tie.Need-add-i Inv-loop μ-loop
 add-i c = omega arith
@@ -74,10 +57,13 @@ loop-less : tie.Need-loop-less Inv-loop μ-loop
 loop-less c = omega arith
 
 loop-again : tie.Need-loop-again Inv-loop μ-loop
-loop-again c = searched-more (c .before .before .before .before .loop .inv) (omega arith) (sym (c .before .same .ensures) ∙ c .if2 .left)
+loop-again c =
+    let a = c .before .before .before .before .before .args in
+    let s = c .before .before .before .loop .inv in
+    searched-more s (omega arith) (rest-test (a .blocks .now) (a .block-len) (a .from) (a .replica) _ _ (s .place) (c .before .same .ensures) (c .if1 .left))
 
-returns-3 : tie.Need-returns-3 Inv-loop μ-loop
-returns-3 c = searched-all (c .before .loop .inv) (omega arith)
+returns-2 : tie.Need-returns-2 Inv-loop μ-loop
+returns-2 c = searched-all (c .before .loop .inv) (omega arith)
 
 pub lowest-alike-spec : {M : Type 1} → statement M
 lowest-alike-spec =
@@ -85,20 +71,15 @@ lowest-alike-spec =
     (tie.spec
     Inv-loop
     μ-loop
-    returns
-    mul-start
-    add-end
-    sub-own
-    part-own-start
-    part-own-end
+    sub-rest
+    mul-own
+    add-own
     loop-holds
-    add-next
-    sub-same
-    part-same-start
-    part-same-end
+    add-same
     same-requires
-    returns-2
+    returns
+    add-at
     add-i
     loop-less
     loop-again
-    returns-3)
+    returns-2)

@@ -1,5 +1,6 @@
 use Prim.Native.Nat.{_-_}
 use native.Mathlib.Omega.{arith}
+use mathlib.Core.Path.{refl}
 use mathlib.Core.Bool.{false}
 use Rattle.vote.specs.Groups.{together}
 use Rattle.vote.proofs.Tables.{Filled, filled-none, filled-more, filled-all}
@@ -7,16 +8,19 @@ use Rattle.vote.proofs.compare.row.Statement.{statement}
 use Rattle.vote.proofs.compare.row.Tie as tie
 
 abbrev Inv-loop : tie.InvT-loop
-Inv-loop groups replicas i out₀ j₀ out j = Filled (together groups replicas i) false out j
+Inv-loop i groups own out₀ j₀ out j = Filled (together groups i) false out j
 
 abbrev μ-loop : tie.MeasureT-loop
-μ-loop groups replicas i out₀ j₀ out j = 16 - j
+μ-loop i groups own out₀ j₀ out j = 16 - j
+
+array-read-own : tie.Need-array-read-own Inv-loop μ-loop
+array-read-own c = omega arith
 
 loop-holds : tie.Need-loop-holds Inv-loop μ-loop
 loop-holds c = filled-none
 
-is-together-requires : tie.Need-is-together-requires Inv-loop μ-loop
-is-together-requires c κs = omega arith
+array-read-out : tie.Need-array-read-out Inv-loop μ-loop
+array-read-out c = omega arith
 
 array-write-out : tie.Need-array-write-out Inv-loop μ-loop
 array-write-out c = omega arith
@@ -28,7 +32,7 @@ loop-less : tie.Need-loop-less Inv-loop μ-loop
 loop-less c = omega arith
 
 loop-again : tie.Need-loop-again Inv-loop μ-loop
-loop-again c = filled-more (c .before .before .loop .inv) (omega arith) (c .is-together .ensures)
+loop-again c = filled-more (c .before .loop .inv) (omega arith) refl
 
 returns : tie.Need-returns Inv-loop μ-loop
 returns c = filled-all (c .before .loop .inv) (omega arith)
@@ -39,8 +43,9 @@ row-spec =
     (tie.spec
     Inv-loop
     μ-loop
+    array-read-own
     loop-holds
-    is-together-requires
+    array-read-out
     array-write-out
     add-j
     loop-less

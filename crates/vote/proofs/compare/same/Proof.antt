@@ -1,47 +1,29 @@
-use Prim.Native.Nat.{_-_}
-use native.Mathlib.Omega.{arith}
-use lib.ListN.{length}
-use Rattle.vote.proofs.Blocks.{Compared, compared-none, compared-more, compared-all}
+use Rattle.vote.proofs.Blocks.{alike-thrice}
+use borrow.Author.Needs.{needs}
 use Rattle.vote.proofs.compare.same.Statement.{statement}
 use Rattle.vote.proofs.compare.same.Tie as tie
 
-abbrev Inv-loop : tie.InvT-loop
-Inv-loop a b differ₀ i₀ differ i = Compared a b differ i
+folded-requires : tie.Need-folded-requires
+folded-requires c κs = search needs
 
-abbrev μ-loop : tie.MeasureT-loop
-μ-loop a b differ₀ i₀ differ i = length a - i
+returns : tie.Need-returns
+returns c =
+    let x = c .before .before .before .args in
+    alike-thrice (x .blocks .now) (x .n) (x .a) (x .b) (c .folded .ensures)
 
-loop-holds : tie.Need-loop-holds Inv-loop μ-loop
-loop-holds c = compared-none (c .pre)
+strided-requires : tie.Need-strided-requires
+strided-requires c κs = search needs
 
-shared-slice-read-differ : tie.Need-shared-slice-read-differ Inv-loop μ-loop
-shared-slice-read-differ c = omega arith
+returns-2 : tie.Need-returns-2
+returns-2 c = search needs
 
-shared-slice-read-differ-2 : tie.Need-shared-slice-read-differ-2 Inv-loop μ-loop
-shared-slice-read-differ-2 c = omega arith
+strided-requires-2 : tie.Need-strided-requires-2
+strided-requires-2 c κs = search needs
 
-add-i : tie.Need-add-i Inv-loop μ-loop
-add-i c = omega arith
-
-loop-less : tie.Need-loop-less Inv-loop μ-loop
-loop-less c = omega arith
-
-loop-again : tie.Need-loop-again Inv-loop μ-loop
-loop-again c = compared-more (c .before .before .before .loop .inv) (omega arith)
-
-returns : tie.Need-returns Inv-loop μ-loop
-returns c = compared-all (c .before .loop .inv) (omega arith)
+returns-3 : tie.Need-returns-3
+returns-3 c = search needs
 
 pub same-spec : {M : Type 1} → statement M
 same-spec =
     tie.close
-    (tie.spec
-    Inv-loop
-    μ-loop
-    loop-holds
-    shared-slice-read-differ
-    shared-slice-read-differ-2
-    add-i
-    loop-less
-    loop-again
-    returns)
+    (tie.spec folded-requires returns strided-requires returns-2 strided-requires-2 returns-3)

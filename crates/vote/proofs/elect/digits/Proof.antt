@@ -4,13 +4,13 @@ use Rattle.vote.proofs.elect.digits.Statement.{statement}
 use Rattle.vote.proofs.elect.digits.Tie as tie
 
 abbrev Inv-loop : tie.InvT-loop
-Inv-loop base row sum₀ i₀ sum i = Summed base row sum i
+Inv-loop base n row sum₀ i₀ sum i = Summed base row n sum i
 
 abbrev μ-loop : tie.MeasureT-loop
-μ-loop base row sum₀ i₀ sum i = i
+μ-loop base n row sum₀ i₀ sum i = i
 
 loop-holds : tie.Need-loop-holds Inv-loop μ-loop
-loop-holds c = summed-none (omega arith)
+loop-holds c = summed-none (omega arith) (omega arith)
 
 sub-i : tie.Need-sub-i Inv-loop μ-loop
 sub-i c = omega arith
@@ -19,7 +19,7 @@ mul-sum : tie.Need-mul-sum Inv-loop μ-loop
 mul-sum c = omega (arith, summed-fits (c .before .loop .inv) (omega arith))
 
 array-read-if1 : tie.Need-array-read-if1 Inv-loop μ-loop
-array-read-if1 c = omega arith
+array-read-if1 c = omega (arith, c .before .loop .inv .few)
 
 add-sum : tie.Need-add-sum Inv-loop μ-loop
 add-sum c = omega (arith, summed-fits (c .before .before .loop .inv) (omega arith))

@@ -1,0 +1,52 @@
+use Prim.Native.Nat.{_-_}
+use native.Mathlib.Omega.{arith}
+use lib.ListN.{getD}
+use Rattle.vote.specs.Groups.{instead}
+use Rattle.vote.proofs.Tables.{Filled, filled-none, filled-more, filled-all}
+use Rattle.vote.proofs.compare.replaced.Statement.{statement}
+use Rattle.vote.proofs.compare.replaced.Tie as tie
+
+abbrev Inv-loop : tie.InvT-loop
+Inv-loop a b old out₀ j₀ out j = Filled (λ j. instead a b (getD old j 0)) 0 out j
+
+abbrev μ-loop : tie.MeasureT-loop
+μ-loop a b old out₀ j₀ out j = 16 - j
+
+loop-holds : tie.Need-loop-holds Inv-loop μ-loop
+loop-holds c = filled-none
+
+array-read-instead : tie.Need-array-read-instead Inv-loop μ-loop
+array-read-instead c = omega arith
+
+instead-requires : tie.Need-instead-requires Inv-loop μ-loop
+instead-requires c κs = omega arith
+
+array-write-out : tie.Need-array-write-out Inv-loop μ-loop
+array-write-out c = omega arith
+
+add-j : tie.Need-add-j Inv-loop μ-loop
+add-j c = omega arith
+
+loop-less : tie.Need-loop-less Inv-loop μ-loop
+loop-less c = omega arith
+
+loop-again : tie.Need-loop-again Inv-loop μ-loop
+loop-again c = filled-more (c .before .before .loop .inv) (omega arith) (c .instead .ensures)
+
+returns : tie.Need-returns Inv-loop μ-loop
+returns c = filled-all (c .before .loop .inv) (omega arith)
+
+pub replaced-spec : {M : Type 1} → statement M
+replaced-spec =
+    tie.close
+    (tie.spec
+    Inv-loop
+    μ-loop
+    loop-holds
+    array-read-instead
+    instead-requires
+    array-write-out
+    add-j
+    loop-less
+    loop-again
+    returns)

@@ -1,0 +1,70 @@
+use native.Mathlib.Omega.{arith}
+use Rattle.vote.proofs.Strides.{strides-fit, strided-less, strided-last}
+use borrow.Author.Needs.{needs}
+use Rattle.vote.proofs.compare.strided.Statement.{statement}
+use Rattle.vote.proofs.compare.strided.Tie as tie
+
+sub-most : tie.Need-sub-most
+sub-most c = search needs
+
+div-most : tie.Need-div-most
+div-most c = search needs
+
+matching-requires : tie.Need-matching-requires
+matching-requires c κs =
+    let x = c .before .args in
+    omega (arith, strides-fit (x .n) (x .stride))
+
+returns : tie.Need-returns
+returns c =
+    let x = c .before .before .before .args in
+    strided-less (x .blocks .now) (x .stride) (x .n) (x .a) (x .b) (c .before .matching .ensures) (c .if1 .taken)
+
+sub-last : tie.Need-sub-last
+sub-last c = search needs
+
+add-folded : tie.Need-add-folded
+add-folded c = search needs
+
+add-folded-2 : tie.Need-add-folded-2
+add-folded-2 c = search needs
+
+add-folded-3 : tie.Need-add-folded-3
+add-folded-3 c = search needs
+
+add-folded-4 : tie.Need-add-folded-4
+add-folded-4 c = search needs
+
+folded-requires : tie.Need-folded-requires
+folded-requires c κs = search needs
+
+returns-2 : tie.Need-returns-2
+returns-2 c =
+    let x = c .before .before .before .before .args in
+    strided-last
+    (x .blocks .now)
+    (x .stride)
+    (x .n)
+    (x .a)
+    (x .b)
+    (c .before .before .matching .ensures)
+    (c .before .if1 .left)
+    (omega arith)
+    (omega arith)
+    (c .folded .ensures)
+
+pub strided-spec : {M : Type 1} → statement M
+strided-spec =
+    tie.close
+    (tie.spec
+    sub-most
+    div-most
+    matching-requires
+    returns
+    sub-last
+    add-folded
+    add-folded-2
+    add-folded-3
+    add-folded-4
+    folded-requires
+    returns-2)

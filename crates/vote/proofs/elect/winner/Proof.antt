@@ -1,0 +1,72 @@
+use Prim.Native.Nat.{_-_, _<_}
+use native.Mathlib.Omega.{arith}
+use mathlib.Core.Logic.{⊎-elim}
+use Rattle.vote.proofs.Winner.{Led, led-none, led-new, led-old, led-all, led-small, counted}
+use Rattle.vote.proofs.elect.winner.Statement.{statement}
+use Rattle.vote.proofs.elect.winner.Tie as tie
+
+abbrev Inv-loop : tie.InvT-loop
+Inv-loop replicas table best₀ most₀ i₀ best most i = Led table replicas best most i
+
+abbrev μ-loop : tie.MeasureT-loop
+μ-loop replicas table best₀ most₀ i₀ best most i = replicas - i
+
+-- the leader is one of the replicas
+leads : (c : tie.After-loop Inv-loop μ-loop) → c .before .loop .best < 16
+leads c = omega (arith, led-small (c .before .loop .inv) (omega arith) (omega arith))
+
+loop-holds : tie.Need-loop-holds Inv-loop μ-loop
+loop-holds c = led-none
+
+mul-row : tie.Need-mul-row Inv-loop μ-loop
+mul-row c = omega arith
+
+array-copy-out-row : tie.Need-array-copy-out-row Inv-loop μ-loop
+array-copy-out-row c = omega arith
+
+digits-requires : tie.Need-digits-requires Inv-loop μ-loop
+digits-requires c κs = omega arith
+
+add-i : tie.Need-add-i Inv-loop μ-loop
+add-i c = omega arith
+
+loop-less : tie.Need-loop-less Inv-loop μ-loop
+loop-less c = omega arith
+
+loop-again : tie.Need-loop-again Inv-loop μ-loop
+loop-again c =
+    let l = c .before .before .before .before .loop .inv in
+    let e = counted _ (c .before .digits .ensures .0) (c .before .digits .ensures .1) in
+    ⊎-elim (λ w. rw (w .1, w .2) (led-new l (omega arith) e (omega arith))) (λ w. rw (w .1, w .2) (led-old l (omega arith) e (omega arith))) (c .if1 .came)
+
+mul-row-2 : tie.Need-mul-row-2 Inv-loop μ-loop
+mul-row-2 c = omega (arith, leads c)
+
+array-copy-out-row-2 : tie.Need-array-copy-out-row-2 Inv-loop μ-loop
+array-copy-out-row-2 c = omega (arith, leads c)
+
+digits-requires-2 : tie.Need-digits-requires-2 Inv-loop μ-loop
+digits-requires-2 c κs = omega arith
+
+returns : tie.Need-returns Inv-loop μ-loop
+returns c =
+    let l = led-all (c .before .before .before .loop .inv) (omega arith) (omega arith) in
+    rw (c .digits2 .ensures .0, l .0, l .1)
+
+pub winner-spec : {M : Type 1} → statement M
+winner-spec =
+    tie.close
+    (tie.spec
+    Inv-loop
+    μ-loop
+    loop-holds
+    mul-row
+    array-copy-out-row
+    digits-requires
+    add-i
+    loop-less
+    loop-again
+    mul-row-2
+    array-copy-out-row-2
+    digits-requires-2
+    returns)
