@@ -1,2 +1,2 @@
 pub mod Index
-pub mod Clip
+pub mod Contents

@@ -8,11 +8,8 @@ ghost use lib.ListN.{length, replicate};
 ghost use lib.Dec.{ltb};
 ghost use Rattle.bytes.specs.Bytes.{indexOf};
 ghost use Rattle.request.specs.declared.Kind.the-variants.{String, Padded};
-ghost use Rattle.writing.specs.Overwrite.{overwrite};
-ghost use Rattle.rules.specs.Object.{contentOf, clip};
-
-// The longest object.
-const LONGEST: usize = 16384;
+ghost use Rattle.writing.specs.Overwrite.{clip};
+ghost use Rattle.rules.specs.Object.{contentOf};
 
 const BLOCK: usize = 32;
 
@@ -56,33 +53,6 @@ fn find_zero(source: &[u8], count: usize) -> usize
     bytes::scan::find(source, at, count, 0)
 }
 
-// Copies the whole source to the front of the target. By way of an array of its own: the compiler then knows that nothing overlaps and makes one block move.
-fn block_move(source: &[u8], target: &mut [u8]) -> usize
-    requires { ⌜ length (now source) ≤ length (now target) ⌝ }
-    ensures { λ r. ⌜ r ≡ length (now (source .entry)) ⌝ }
-    ensures { λ _. ⌜ now (target .exit) ≡ overwrite (now (target .entry)) 0 (now (source .entry)) ⌝ }
-{
-    let count = source.len();
-    if LONGEST < count {
-        return bytes::copy(source, target);
-    }
-    let mut block = [0u8; 16384];
-    bytes::copy(source, &mut block);
-    bytes::copy(&block[0..count], target)
-}
-
-// Writes the source, as far as it fits.
-fn write_bytes(target: &mut [u8], source: &[u8]) -> usize
-    ensures { λ r. ⌜ r ≡ min (length (now (source .entry))) (length (now (target .entry))) ⌝ }
-    ensures { λ _. ⌜ now (target .exit) ≡ clip (now (source .entry)) (now (target .entry)) ⌝ }
-{
-    let room = target.len();
-    if source.len() <= room {
-        return block_move(source, target);
-    }
-    block_move(&source[0..room], target)
-}
-
 // Writes the source through its first zero byte, as far as it fits. Nothing past what fits is looked at.
 fn write_string(target: &mut [u8], source: &[u8]) -> usize
     ensures { λ r. ⌜ r ≡ min (length (contentOf String (now (source .entry)))) (length (now (target .entry))) ⌝ }
@@ -92,9 +62,9 @@ fn write_string(target: &mut [u8], source: &[u8]) -> usize
     let end = find_zero(source, seen);
     if end < seen {
         let past = end + 1;
-        return write_bytes(target, &source[0..past]);
+        return writing::write(target, &source[0..past]);
     }
-    write_bytes(target, source)
+    writing::write(target, source)
 }
 
 // Writes the source before its first zero byte and then zeros, `count` bytes in all, as far as they fit.
@@ -105,7 +75,7 @@ fn write_padded(target: &mut [u8], source: &[u8], count: u32) -> usize
     let room = least(wide(count), target.len());
     let seen = least(source.len(), room);
     let text = find_zero(source, seen);
-    block_move(&source[0..text], target);
+    writing::write(target, &source[0..text]);
     clear(&mut target[text..room]);
     room
 }
@@ -116,7 +86,7 @@ pub fn write(target: &mut [u8], source: &[u8], kind: Kind) -> usize
     ensures { λ _. ⌜ now (target .exit) ≡ clip (contentOf kind (now (source .entry))) (now (target .entry)) ⌝ }
 {
     match kind {
-        Kind::Bytes => write_bytes(target, source),
+        Kind::Bytes => writing::write(target, source),
         Kind::String => write_string(target, source),
         Kind::Padded(count) => write_padded(target, source, count),
     }

@@ -11,8 +11,9 @@ use Rattle.geometry.specs.declared.Layout.{Layout}
 use Rattle.geometry.specs.Layout.{heapLength}
 use Rattle.answer.specs.Reply.{served}
 use Rattle.rules.specs.Outcome.{reply, heapAfter}
-use Rattle.rules.specs.Object.{space, copy, clip}
-use Rattle.fill.proofs.Clip.{filled-back}
+use Rattle.rules.specs.Object.{space, copy}
+use Rattle.writing.specs.Overwrite.{clip}
+use Rattle.writing.proofs.Clip.{filled-back}
 
 -- what the writer wrote of the content is the bytes that the copy tells, and the heap is written over with them
 pub copied : (G : Layout) (m h : List ℕ) (offset : ℕ) (content : List ℕ) {a room n : ℕ} {ys : List ℕ}

@@ -54,7 +54,3 @@ abbrev pub contentOf : Kind → List ℕ → List ℕ
 contentOf Bytes source = source
 contentOf String source = take (suc (indexOf 0 source)) source
 contentOf (Padded count) source = take count (take (indexOf 0 source) source ++ replicate count 0)
-
--- a target with a content at its front, as far as that fits
-abbrev pub clip : List ℕ → List ℕ → List ℕ
-clip content target = take (length target) content ++ drop (length content) target

@@ -1,17 +1,17 @@
 -- A vote's decision from what the code finds.
 use Prim.Native.Nat.{ℕ, _+_, _*_, _-_, _/_, _%_, _^_, _≤_, _<_}
-use native.Mathlib.Nat.{sub-zero}
 use native.Mathlib.Omega.{arith}
 use mathlib.Core.Path.{_≡_, refl, ap, _∙_}
 use mathlib.Core.Logic.{_↔_}
 use mathlib.Core.Bool.{Bool, true, false, true≢false, _||_, and-false}
 use mathlib.Core.List.{List, [], _++_}
 use lib.ListN.{length, getD, take, drop}
-use lib.Seq.{take-length, take-append-seam}
 use borrow.Author.Tests.{lt-ltb, le-ltb, ltb-false, eqb-true, not-false}
 use Rattle.answer.specs.declared.Refusal.the-variants.{InvalidVote, NoAgreement}
 use Rattle.vote.specs.declared.elect.Elected.{Elected}
 use Rattle.vote.specs.Groups.{electedOf}
+use Rattle.writing.specs.Overwrite.{clip}
+use Rattle.writing.proofs.Clip.{clip-fits}
 use Rattle.vote.specs.Decide.{blockOf, tabulate, agree, agreements, digits, votes, maskOf, leader, invalid, won, lost, count, decide}
 use Rattle.vote.proofs.Blocks.{part, part-block, part-length, block-within, alike-self}
 use Rattle.vote.proofs.Tables.{tabulate-at}
@@ -82,9 +82,6 @@ module _ {blocks : List ℕ} {k size n : ℕ} {table : List (List Bool)} {w : El
   pub found-room : length (part blocks (w .replica * size) size) ≤ n
   found-room = rw (part-length blocks (w .replica * size) size found-block) (e .numbers .room)
 
-  pub found-short : length (part blocks (w .replica * size) size) ≤ 4096
-  found-short = rw (part-length blocks (w .replica * size) size found-block) (e .numbers .short)
-
   -- its row
   abbrev pub row : List Bool
   row = tabulate (agree blocks k size (w .replica)) 0 16
@@ -122,16 +119,7 @@ module _ {blocks : List ℕ} {k size n : ℕ} {table : List (List Bool)} {w : El
       rw (mask-bit, tabulate-at (agree blocks k size (w .replica)) false 16 (w .replica) small, lt-ltb (w .replica) k within, alike-self)
 
   -- its block is put to the front of an output
-  pub found-put : (output : List ℕ)
-      → let from = part blocks (w .replica * size) size in
-      let block = blockOf blocks size (w .replica) in
-      from ++ drop (length from) output ≡ block ++ drop (length block) output
-  found-put output = rw part-block
-
--- a block that is copied to an array and from there to an output
-pub put-by-way : (block output array between : List ℕ) → between ≡ take (length block) block ++ drop (length block) array
-    → let part = take (length block - 0) (drop 0 between) in
-    take (length part) part ++ drop (length part) output ≡ block ++ drop (length block) output
-put-by-way block output array between e =
-    let p : take (length block - 0) (drop 0 between) ≡ block = rw (sub-zero, e, take-length block) (take-append-seam block (drop (length block) array)) in
-    rw (p, take-length block)
+  pub found-put : (output : List ℕ) → length output ≡ n
+      → let block = blockOf blocks size (w .replica) in
+      clip (part blocks (w .replica * size) size) output ≡ block ++ drop (length block) output
+  found-put output e = clip-fits (part blocks (w .replica * size) size) output (rw e found-room) ∙ rw part-block

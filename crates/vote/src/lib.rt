@@ -4,9 +4,7 @@ mod elect;
 
 use answer::Refusal;
 ghost use mathlib.Core.Path.{_≡_};
-ghost use Prim.Native.Nat.{_≤_};
-ghost use mathlib.Core.List.{_++_};
-ghost use lib.ListN.{length, drop};
+ghost use lib.ListN.{length};
 ghost use Rattle.vote.specs.Decide.{invalid, decide, tally, tallyOf, outputAfter, NamesWinner};
 
 const MOST_REPLICAS: usize = 16;
@@ -41,17 +39,6 @@ fn is_invalid(blocks_len: usize, replicas: usize, block_len: usize, output_len: 
     output_len < block_len
 }
 
-// Writes a block to the front of the output. By way of an array of its own, which the compiler knows to lie apart from both: the two copies become
-// one call of memmove.
-fn put(block: &[u8], output: &mut [u8])
-    requires { ⌜ (length (now block) ≤ 4096) × (length (now block) ≤ length (now output)) ⌝ }
-    ensures { λ _. ⌜ now (output .exit) ≡ now (block .entry) ++ drop (length (now (block .entry))) (now (output .entry)) ⌝ }
-{
-    let mut between = [0u8; LONGEST_BLOCK];
-    bytes::copy(block, &mut between);
-    bytes::copy(&between[0..block.len()], output);
-}
-
 // Replicas lie one after another in `blocks`, a block each. The winning block goes to the front of `output`.
 pub fn vote(blocks: &[u8], replicas: usize, block_len: usize, output: &mut [u8]) -> Verdict
     ensures numbers { λ r. ⌜ tallyOf r ≡ tally (decide (now (blocks .entry)) replicas «block_len» (length (now (output .entry)))) ⌝ }
@@ -69,7 +56,7 @@ pub fn vote(blocks: &[u8], replicas: usize, block_len: usize, output: &mut [u8])
     }
     let start = winner.replica * block_len;
     let end = start + block_len;
-    put(&blocks[start..end], output);
+    writing::write(output, &blocks[start..end]);
     Verdict::Agreed {
         mask: winner.mask,
         count: winner.count,

@@ -1,1 +1,35 @@
-// Writing over bytes: a definition and its laws, for the contracts and proofs of the crates above. It has no code.
+// Writing over bytes: the definition and its laws, for the contracts and proofs of the crates above, and the one copy from lent bytes to lent bytes.
+ghost use mathlib.Core.Path.{_≡_};
+ghost use Prim.Native.Nat.{min, _≤_};
+ghost use lib.ListN.{length};
+ghost use Rattle.writing.specs.Overwrite.{overwrite, clip};
+
+// The longest part that becomes one block move.
+const LONGEST: usize = 16384;
+
+// Copies the whole source to the front of the target. By way of an array of its own: the compiler then knows that nothing overlaps and makes one block move.
+fn block_move(source: &[u8], target: &mut [u8]) -> usize
+    requires { ⌜ length (now source) ≤ length (now target) ⌝ }
+    ensures { λ r. ⌜ r ≡ length (now (source .entry)) ⌝ }
+    ensures { λ _. ⌜ now (target .exit) ≡ overwrite (now (target .entry)) 0 (now (source .entry)) ⌝ }
+{
+    let count = source.len();
+    if LONGEST < count {
+        return bytes::copy(source, target);
+    }
+    let mut block = [0u8; 16384];
+    bytes::copy(source, &mut block);
+    bytes::copy(&block[0..count], target)
+}
+
+// Writes the source, as far as it fits.
+pub fn write(target: &mut [u8], source: &[u8]) -> usize
+    ensures { λ r. ⌜ r ≡ min (length (now (source .entry))) (length (now (target .entry))) ⌝ }
+    ensures { λ _. ⌜ now (target .exit) ≡ clip (now (source .entry)) (now (target .entry)) ⌝ }
+{
+    let room = target.len();
+    if source.len() <= room {
+        return block_move(source, target);
+    }
+    block_move(&source[0..room], target)
+}

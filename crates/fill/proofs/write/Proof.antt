@@ -6,8 +6,8 @@ use Rattle.fill.proofs.write.Tie as tie
 enum-told : tie.Need-enum-told
 enum-told c = search needs
 
-write-bytes-requires : tie.Need-write-bytes-requires
-write-bytes-requires c κs = search needs
+write-requires : tie.Need-write-requires
+write-requires c κs = search needs
 
 enum-told-2 : tie.Need-enum-told-2
 enum-told-2 c = search needs
@@ -25,7 +25,7 @@ same-length : tie.Need-same-length
 same-length c = search needs
 
 returns : tie.Need-returns
-returns c = rw (c .before .before .before .before .enum-told .given .1) (c .before .before .write-bytes .ensures)
+returns c = rw (c .before .before .before .before .enum-told .given .1) (c .before .before .write .ensures)
 
 same-length-2 : tie.Need-same-length-2
 same-length-2 c = search needs
@@ -44,7 +44,7 @@ write-spec =
     tie.close
     (tie.spec
     enum-told
-    write-bytes-requires
+    write-requires
     enum-told-2
     write-string-requires
     enum-known-kind

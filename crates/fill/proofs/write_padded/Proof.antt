@@ -1,5 +1,5 @@
 use borrow.Author.Needs.{needs}
-use Rattle.fill.proofs.Clip.{padded-put}
+use Rattle.fill.proofs.Contents.{padded-put}
 use Rattle.fill.proofs.write_padded.Statement.{statement}
 use Rattle.fill.proofs.write_padded.Tie as tie
 
@@ -15,17 +15,17 @@ least-requires-2 c κs = search needs
 find-zero-requires : tie.Need-find-zero-requires
 find-zero-requires c κs = search needs
 
-sub-block-move : tie.Need-sub-block-move
-sub-block-move c = search needs
+sub-write : tie.Need-sub-write
+sub-write c = search needs
 
-part-block-move-start : tie.Need-part-block-move-start
-part-block-move-start c = search needs
+part-write-start : tie.Need-part-write-start
+part-write-start c = search needs
 
-part-block-move-end : tie.Need-part-block-move-end
-part-block-move-end c = search needs
+part-write-end : tie.Need-part-write-end
+part-write-end c = search needs
 
-block-move-requires : tie.Need-block-move-requires
-block-move-requires c κs = search needs
+write-requires : tie.Need-write-requires
+write-requires c κs = search needs
 
 sub-clear : tie.Need-sub-clear
 sub-clear c = search needs
@@ -44,8 +44,10 @@ same-length c = search needs
 
 returns : tie.Need-returns
 returns c =
-    let l = c .before .before .before .before .before .before .before .before .before .before .before .least .ensures in
-    padded-put _ _ _ (rw (c .before .before .before .before .before .before .before .before .before .before .before .before .wide .ensures .0) at l) (c .before .before .before .before .before .before .before .before .before .before .least2 .ensures) (c .before .before .before .before .before .before .before .before .before .find-zero .ensures) (c .before .before .before .before .before .before .block-move .ensures .1) (c .before .before .clear .ensures)
+    let found = c .before .before .before .before .before .before .before .before .before in
+    let a = found .before .before .before .before .before .before .args in
+    let room = rw (found .before .before .before .wide .ensures .0) at (found .before .before .least .ensures) in
+    padded-put (a .source .now) (a .target .now) (a .count) room (found .before .least2 .ensures) (found .find-zero .ensures) (c .before .before .before .before .before .before .write .ensures .1) (c .before .before .clear .ensures)
 
 pub write-padded-spec : {M : Type 1} → statement M
 write-padded-spec =
@@ -55,10 +57,10 @@ write-padded-spec =
     least-requires
     least-requires-2
     find-zero-requires
-    sub-block-move
-    part-block-move-start
-    part-block-move-end
-    block-move-requires
+    sub-write
+    part-write-start
+    part-write-end
+    write-requires
     sub-clear
     part-clear-start
     part-clear-end

@@ -1,5 +1,5 @@
 use borrow.Author.Needs.{needs}
-use Rattle.fill.proofs.Clip.{string-part, string-whole}
+use Rattle.fill.proofs.Contents.{string-part, string-whole}
 use Rattle.fill.proofs.write_string.Statement.{statement}
 use Rattle.fill.proofs.write_string.Tie as tie
 
@@ -12,26 +12,26 @@ find-zero-requires c κs = search needs
 add-past : tie.Need-add-past
 add-past c = search needs
 
-sub-write-bytes : tie.Need-sub-write-bytes
-sub-write-bytes c = search needs
+sub-write : tie.Need-sub-write
+sub-write c = search needs
 
-part-write-bytes-start : tie.Need-part-write-bytes-start
-part-write-bytes-start c = search needs
+part-write-start : tie.Need-part-write-start
+part-write-start c = search needs
 
-part-write-bytes-end : tie.Need-part-write-bytes-end
-part-write-bytes-end c = search needs
+part-write-end : tie.Need-part-write-end
+part-write-end c = search needs
 
-write-bytes-requires : tie.Need-write-bytes-requires
-write-bytes-requires c κs = search needs
+write-requires : tie.Need-write-requires
+write-requires c κs = search needs
 
 same-length : tie.Need-same-length
 same-length c = search needs
 
 returns : tie.Need-returns
-returns c = rw (← string-part _ _ (c .before .before .before .before .before .before .find-zero .ensures) (c .before .before .before .before .before .if1 .taken)) (c .before .before .write-bytes .ensures)
+returns c = rw (← string-part _ _ (c .before .before .before .before .before .before .find-zero .ensures) (c .before .before .before .before .before .if1 .taken)) (c .before .before .write .ensures)
 
-write-bytes-requires-2 : tie.Need-write-bytes-requires-2
-write-bytes-requires-2 c κs = search needs
+write-requires-2 : tie.Need-write-requires-2
+write-requires-2 c κs = search needs
 
 same-length-2 : tie.Need-same-length-2
 same-length-2 c = search needs
@@ -39,7 +39,7 @@ same-length-2 c = search needs
 returns-2 : tie.Need-returns-2
 returns-2 c =
     let a = c .before .before .before .before .before .before .before .before .before .args in
-    string-whole (a .source .now) _ (c .before .before .before .before .before .find-zero .ensures) (a .target .now) (c .before .before .before .before .before .before .least .ensures) (c .before .before .before .before .if1 .left) (c .before .before .write-bytes2 .ensures)
+    string-whole (a .source .now) _ (c .before .before .before .before .before .find-zero .ensures) (a .target .now) (c .before .before .before .before .before .before .least .ensures) (c .before .before .before .before .if1 .left) (c .before .before .write2 .ensures)
 
 pub write-string-spec : {M : Type 1} → statement M
 write-string-spec =
@@ -48,12 +48,12 @@ write-string-spec =
     least-requires
     find-zero-requires
     add-past
-    sub-write-bytes
-    part-write-bytes-start
-    part-write-bytes-end
-    write-bytes-requires
+    sub-write
+    part-write-start
+    part-write-end
+    write-requires
     same-length
     returns
-    write-bytes-requires-2
+    write-requires-2
     same-length-2
     returns-2)

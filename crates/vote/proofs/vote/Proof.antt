@@ -2,7 +2,7 @@ use native.Mathlib.Omega.{arith}
 use mathlib.Core.Path.{refl, sym, _∙_}
 use lib.ListN.{length}
 use Rattle.vote.proofs.Decision.{Allowed, allowed, decide-invalid}
-use Rattle.vote.proofs.Decision.{Found, found-small, found-block, found-room, found-short, found-lost, found-won, found-named, found-put}
+use Rattle.vote.proofs.Decision.{Found, found-small, found-block, found-lost, found-won, found-named, found-put}
 use borrow.Author.Needs.{needs}
 use Rattle.vote.proofs.vote.Statement.{statement}
 use Rattle.vote.proofs.vote.Tie as tie
@@ -50,22 +50,20 @@ mul-start c = omega (arith, found-block (found-here (c .before .before .before))
 add-end : tie.Need-add-end
 add-end c = omega (arith, found-block (found-here (c .before .before .before)))
 
-sub-put : tie.Need-sub-put
-sub-put c = search needs
+sub-write : tie.Need-sub-write
+sub-write c = search needs
 
-part-put-start : tie.Need-part-put-start
-part-put-start c = search needs
+part-write-start : tie.Need-part-write-start
+part-write-start c = search needs
 
-part-put-end : tie.Need-part-put-end
-part-put-end c = found-block (found-here (c .before .before .before))
+part-write-end : tie.Need-part-write-end
+part-write-end c = found-block (found-here (c .before .before .before .before))
 
-put-requires : tie.Need-put-requires
-put-requires c κs =
-    let e = found-here (c .before .before .before .before .before) in
-    (found-short e, found-room e)
+write-requires : tie.Need-write-requires
+write-requires c κs = search needs
 
-cast-t21 : tie.Need-cast-t21
-cast-t21 c = omega (arith, found-small (found-here (c .before .before .before .before .before .before .before .before .before)))
+cast-t20 : tie.Need-cast-t20
+cast-t20 c = omega (arith, found-small (found-here (c .before .before .before .before .before .before .before .before .before)))
 
 same-length : tie.Need-same-length
 same-length c = search needs
@@ -75,7 +73,8 @@ returns-3 c =
     let d = c .before .before .before .before .before .before .before in
     let e = found-here (d .before .before) in
     let won = found-won e (d .if2 .left) in
-    rw (won .0, won .1, won .2) (refl, (found-named e, c .before .before .before .put .ensures ∙ found-put e _))
+    let output = c .before .before .before .before .before .before .before .before .before .before .before .before .before .before .before .args .output .now in
+    rw (won .0, won .1, won .2) (refl, (found-named e, c .before .before .before .write .ensures .1 ∙ found-put e output refl))
 
 pub vote-spec : {M : Type 1} → statement M
 vote-spec =
@@ -88,10 +87,10 @@ vote-spec =
     returns-2
     mul-start
     add-end
-    sub-put
-    part-put-start
-    part-put-end
-    put-requires
-    cast-t21
+    sub-write
+    part-write-start
+    part-write-end
+    write-requires
+    cast-t20
     same-length
     returns-3)

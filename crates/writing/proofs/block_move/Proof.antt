@@ -1,9 +1,9 @@
--- `fill::block_move` meets its contract, at once or by way of the block.
+-- `writing::block_move` meets its contract, at once or by way of the block.
 use borrow.Author.Needs.{needs}
 use lib.ListN.{replicate}
-use Rattle.fill.proofs.Clip.{moved, moved-through}
-use Rattle.fill.proofs.block_move.Statement.{statement}
-use Rattle.fill.proofs.block_move.Tie as tie
+use Rattle.writing.proofs.Clip.{moved, moved-through}
+use Rattle.writing.proofs.block_move.Statement.{statement}
+use Rattle.writing.proofs.block_move.Tie as tie
 
 copy-requires : tie.Need-copy-requires
 copy-requires c κs = search needs

@@ -1,4 +1,4 @@
--- A content at the front of a target, as far as it fits, and the contents that copies write.
+-- The contents that copies write, as far as they fit.
 use Prim.Native.Nat.{ℕ, zero, suc, min, _+_, _-_, _<_, _≤_}
 use mathlib.Core.Path.{_≡_, refl, sym, ap, _∙_}
 use mathlib.Core.Bool.{Bool, true, false}
@@ -13,57 +13,9 @@ use lib.Seq.{take-all, take-length, drop-length, length-take-le, take-take, take
 use Rattle.bytes.specs.Bytes.{indexOf}
 use Rattle.fill.proofs.Index.{index-le}
 use Rattle.request.specs.declared.Kind.the-variants.{String, Padded}
-use Rattle.writing.specs.Overwrite.{overwrite}
-use Rattle.rules.specs.Object.{contentOf, clip}
-
--- ---- filling a target from its front
-
-module _ (s t : List ℕ) where
-  -- the first bytes of the content, as many as fit, fill the target
-  filled : {i : ℕ} → i ≡ min (length s) (length t) → take i s ++ drop i t ≡ clip s t
-  filled {i} e = go (decLe (length s) (length t))
-    where
-      go : Dec (length s ≤ length t) → take i s ++ drop i t ≡ clip s t
-      go (yes h) = let all : i ≡ length s = omega arith in rw (all, take-length s, take-all (length t) s h)
-      go (no h) = let all : i ≡ length t = omega arith in rw (all, drop-length t, drop-of-length-le t {i = length s} (omega arith))
-
-  -- what a writer has done that wrote a whole content
-  abbrev Wrote : List ℕ → ℕ → List ℕ → Type 0
-  Wrote x r after = (r ≡ length x) × (after ≡ overwrite t 0 x)
-
-  -- a content that fits, and the part of a longer one that is as long as the target
-  abbrev Clipped : ℕ → List ℕ → Type 0
-  Clipped r after = (r ≡ min (length s) (length t)) × (after ≡ clip s t)
-
-  pub clipped : {r : ℕ} {after : List ℕ} → length s ≤ length t → Wrote s r after → Clipped r after
-  clipped h (p, q) = (omega arith, q ∙ rw (take-all (length t) s h))
-
-  pub clipped-part : {r : ℕ} {after : List ℕ} → length t < length s → Wrote (take (length t - 0) s) r after → Clipped r after
-  clipped-part h (p, q) =
-      let size : length (take (length t) s) ≡ length t = length-take-le (length t) s (omega arith) in (
-        p ∙ rw (sub-zero, size) (omega arith),
-        q ∙ rw (sub-zero, size, drop-length t, drop-of-length-le t {i = length s} (omega arith)),
-      )
-
-  -- a copy of the whole content, at once or by way of a block
-  pub moved : {r : ℕ} {after : List ℕ} → r ≡ length s → after ≡ take (length s) s ++ drop (length s) t → Wrote s r after
-  moved p q = (p, q ∙ rw (take-length s))
-
-  pub moved-through : (z : List ℕ) {block after : List ℕ} {r : ℕ} → block ≡ take (length s) s ++ drop (length s) z
-      → r ≡ length (take (length s - 0) block)
-      → after ≡ take (length (take (length s - 0) block)) (take (length s - 0) block) ++ drop (length (take (length s - 0) block)) t
-      → Wrote s r after
-  moved-through z {block} put p q =
-      let front : take (length s - 0) block ≡ s = rw (put, sub-zero, take-length s) (take-at s (drop (length s) z) (length s) refl) in
-      (p ∙ rw front, q ∙ rw (front, take-length s))
-
--- the first k elements of a list, lent and filled: the list has the first bytes of the content in place of its own
-pub filled-back : (s x : List ℕ) {k n : ℕ} → k ≤ length x → n ≡ min (length s) k
-    → clip s (take k x) ++ drop k x ≡ take n s ++ drop (length (take n s)) x
-filled-back s x {k} {n} h e =
-    let room : length (take k x) ≡ k = length-take-le k x h in
-    let fits : n ≡ min (length s) (length (take k x)) = rw room e in
-    rw (length-take-le n s (omega arith), ← filled s (take k x) fits, append-assoc, ← drop-append-le n (take k x) (drop k x) (omega arith), take-append-drop)
+use Rattle.writing.specs.Overwrite.{clip}
+use Rattle.writing.proofs.Clip.{filled, clip-fits}
+use Rattle.rules.specs.Object.{contentOf}
 
 -- a content cut where no more fits is as good as the whole
 enough : (s t : List ℕ) (n : ℕ) → min (length s) (length t) ≤ n
@@ -124,14 +76,14 @@ module _ (s t : List ℕ) (count : ℕ) where
   -- the text copied and the rest cleared
   pub padded-put : {room seen text : ℕ} {mid zeros : List ℕ} → room ≡ min count (length t) → seen ≡ min (length s) room
       → text ≡ min seen (indexOf 0 s)
-      → mid ≡ overwrite t 0 (take (text - 0) s)
+      → mid ≡ clip (take (text - 0) s) t
       → zeros ≡ replicate (length (take (room - text) (drop text mid))) 0
       → (room ≡ min (length (contentOf (Padded count) s)) (length t))
       × (take text mid ++ (zeros ++ drop (room - text) (drop text mid)) ≡ clip (contentOf (Padded count) s) t)
   padded-put {room} {seen} {text} {mid} {zeros} roomy view at copied cleared =
       let cut : text ≡ min room (indexOf 0 s) = omega (arith, at, index-le 0 s) in
       let size : length (take text s) ≡ text = length-take-le text s (omega (arith, index-le 0 s)) in
-      let middle : mid ≡ take text s ++ drop text t = copied ∙ rw (sub-zero, size) in
+      let middle : mid ≡ take text s ++ drop text t = copied ∙ rw sub-zero (clip-fits (take text s) t (rw size (omega arith)) ∙ rw size) in
       let before : take text mid ≡ take text s = rw middle (take-at (take text s) (drop text t) text size) in
       let after : drop text mid ≡ drop text t = rw middle (drop-at (take text s) (drop text t) text size) in
       let left : length (take (room - text) (drop text t)) ≡ room - text = length-take-le (room - text) (drop text t) (rw length-drop (sub-le text (omega arith))) in

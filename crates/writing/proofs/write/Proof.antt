@@ -1,8 +1,8 @@
--- `fill::write_bytes` meets its contract: it copies the whole source, or its part that is as long as the target.
+-- `writing::write` meets its contract: it copies the whole source, or its part that is as long as the target.
 use borrow.Author.Needs.{needs}
-use Rattle.fill.proofs.Clip.{clipped, clipped-part}
-use Rattle.fill.proofs.write_bytes.Statement.{statement}
-use Rattle.fill.proofs.write_bytes.Tie as tie
+use Rattle.writing.proofs.Clip.{clipped, clipped-part}
+use Rattle.writing.proofs.write.Statement.{statement}
+use Rattle.writing.proofs.write.Tie as tie
 
 block-move-requires : tie.Need-block-move-requires
 block-move-requires c κs = search needs
@@ -35,8 +35,8 @@ returns-2 c =
     let a = c .before .before .before .before .before .before .before .before .args in
     clipped-part (a .source .now) (a .target .now) (c .before .before .before .before .before .if1 .left) (c .before .before .block-move2 .ensures)
 
-pub write-bytes-spec : {M : Type 1} → statement M
-write-bytes-spec =
+pub write-spec : {M : Type 1} → statement M
+write-spec =
     tie.close
     (tie.spec
     block-move-requires
