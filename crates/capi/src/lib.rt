@@ -9,7 +9,7 @@ ghost use Rattle.rules.specs.Serve.{serve};
 ghost use Rattle.vote.specs.Decide.{decide, tally, outputAfter};
 ghost use Rattle.capi.specs.Numbers.{replyIn, tallyIn, NamesWinnerIn, metadataBytes};
 use answer::Answer;
-use geometry::Layout;
+use geometry::Plan;
 use vote::Verdict;
 
 #[repr(C)]
@@ -94,9 +94,9 @@ pub extern "C" fn poheldu_vote(
 pub extern "C" fn poheldu_metadata_length(heap_len: usize) -> usize
     ensures { λ r. ⌜ r ≡ metadataBytes «heap_len» ⌝ }
 {
-    let layout = Layout::of(heap_len);
-    if layout.region == 0 {
+    let plan = Plan::of(heap_len);
+    if plan.layout.region == 0 {
         return 0;
     }
-    layout.metadata_length()
+    plan.metadata
 }

@@ -3,7 +3,7 @@
 // A case is a header of four little-endian words, the heap's length, z, w and a number of requests, and then the requests, of sixteen bytes
 // each. A heap length above 98,304 counts as 98,304, and a number of requests above 1,024 as 1,024. The heap's bytes stay as the case before
 // left them, and so does the metadata where an opening is refused. A header that is cut short ends the run.
-use geometry::Layout;
+use geometry::Plan;
 use libc::STDIN_FILENO;
 use libc::STDOUT_FILENO;
 ghost use mathlib.Core.Path.{_≡_};
@@ -54,7 +54,7 @@ fn case_of(header: &[u8]) -> Case
     let requests = 16 * at_most(word_at(header, 12) as usize, 1024);
     Case {
         heap,
-        metadata: at_most(Layout::of(heap).metadata_length(), 4096),
+        metadata: at_most(Plan::of(heap).metadata, 4096),
         z: word_at(header, 4),
         w: word_at(header, 8),
         requests,

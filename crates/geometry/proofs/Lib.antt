@@ -1,2 +1,3 @@
 pub mod Geometry
 pub mod Slots
+pub mod Doubling

@@ -7,6 +7,7 @@ use Rattle.search.specs.First.{first}
 use Rattle.geometry.specs.declared.Layout.{Layout}
 use Rattle.geometry.specs.declared.Location.{Location}
 use Rattle.geometry.specs.declared.Part.{Part}
+use Rattle.geometry.specs.declared.Plan.{Plan}
 
 -- size classes, and regions
 abbrev pub classes : ℕ
@@ -70,3 +71,7 @@ partOf G c = record { slots = slots G c; start = bitmapAt G c; end = bitmapAt G 
 
 abbrev pub metadataLength : Layout → ℕ
 metadataLength G = bitmapAt G classes
+
+-- what a heap's length tells
+abbrev pub planOf : ℕ → Plan
+planOf n = record { layout = layoutOf n; metadata = metadataLength (layoutOf n) }

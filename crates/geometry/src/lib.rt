@@ -5,7 +5,7 @@ use numbers::remainder;
 use numbers::wide;
 ghost use mathlib.Core.Path.{_≡_};
 ghost use Prim.Native.Nat.{_+_, _*_, _^_, _<_, _≤_};
-ghost use Rattle.geometry.specs.Layout.{classes, layoutOf, slotSize, slots, classOf, locate, header, bitmapLength, bitmapAt, metadataLength, partOf};
+ghost use Rattle.geometry.specs.Layout.{classes, slotSize, slots, classOf, locate, header, bitmapLength, bitmapAt, partOf, planOf};
 
 pub const CLASSES: usize = 12;
 
@@ -15,6 +15,12 @@ const HEADER: usize = 8;
 // How a heap is laid out. A region length of 0 stands for no heap: it has no slots.
 pub struct Layout {
     pub region: u32,
+}
+
+// What a heap's length tells: its layout, and the length of its metadata.
+pub struct Plan {
+    pub layout: Layout,
+    pub metadata: usize,
 }
 
 // The part of the metadata that holds a class's bitmap, and how many slots the bitmap has.
@@ -31,30 +37,15 @@ pub struct Location {
     pub into: usize,
 }
 
-// A power of two that a region length can be.
+// A power of two that a region length can be, or twice the largest.
 fn power(exponent: u32) -> u32
-    requires { ⌜ exponent < 21 ⌝ }
-    ensures { λ r. ⌜ (r ≡ 2 ^ exponent) × (r ≤ 1048576) ⌝ }
+    requires { ⌜ exponent < 22 ⌝ }
+    ensures { λ r. ⌜ (r ≡ 2 ^ exponent) × (r ≤ 2097152) ⌝ }
 {
     1 << exponent
 }
 
 impl Layout {
-    // The layout of a heap of this length; its region length is 0 where the length is not allowed.
-    pub fn of(heap_len: usize) -> Layout
-        ensures { λ r. ⌜ r ≡ layoutOf «heap_len» ⌝ }
-    {
-        let mut exponent: u32 = 10;
-        while exponent < 21 {
-            let region = power(exponent);
-            if heap_len == CLASSES * wide(region) {
-                return Layout { region };
-            }
-            exponent += 1;
-        }
-        Layout { region: 0 }
-    }
-
     // The bytes of a slot; 0 past the last class.
     pub fn slot_size(self, class: usize) -> usize
         ensures { λ r. ⌜ r ≡ slotSize self class ⌝ }
@@ -128,10 +119,33 @@ impl Layout {
             end: start + self.bitmap_length(class),
         }
     }
+}
 
-    pub fn metadata_length(self) -> usize
-        ensures { λ r. ⌜ r ≡ metadataLength self ⌝ }
+impl Plan {
+    // The plan of a heap of this length; its region length is 0 where the length is not allowed. Twice a region has one bitmap more in front and all others
+    // a class later. So the sum is made once, and the compiler, which knows where it starts, makes it beforehand.
+    pub fn of(heap_len: usize) -> Plan
+        ensures { λ r. ⌜ r ≡ planOf «heap_len» ⌝ }
     {
-        self.bitmap_start(CLASSES)
+        let first = Layout { region: power(10) };
+        let mut metadata = first.bitmap_start(CLASSES);
+        let mut exponent: u32 = 10;
+        while exponent < 21 {
+            let layout = Layout {
+                region: power(exponent),
+            };
+            if heap_len == CLASSES * wide(layout.region) {
+                return Plan { layout, metadata };
+            }
+            exponent += 1;
+            let twice = Layout {
+                region: power(exponent),
+            };
+            metadata = metadata + twice.bitmap_length(0) - layout.bitmap_length(CLASSES - 1);
+        }
+        Plan {
+            layout: Layout { region: 0 },
+            metadata: HEADER,
+        }
     }
 }

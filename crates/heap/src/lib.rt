@@ -7,6 +7,7 @@ mod object;
 use answer::Answer;
 use answer::Refusal;
 use geometry::Layout;
+use geometry::Plan;
 use mwc::Generator;
 use request::Parsed;
 use request::Request;
@@ -24,11 +25,12 @@ pub fn open(heap: &[u8], metadata: &mut [u8], z: u32, w: u32) -> Answer
     ensures { λ r. ⌜ replyOf r ≡ openReply (length (now (heap .entry))) (length (now (metadata .entry))) (setup z w) ⌝ }
     ensures { λ _. ⌜ now (metadata .exit) ≡ opened (length (now (heap .entry))) (now (metadata .entry)) (setup z w) ⌝ }
 {
-    let layout = Layout::of(heap.len());
+    let plan = Plan::of(heap.len());
+    let layout = plan.layout;
     if layout.region == 0 {
         return Answer::Refused(Refusal::HeapLength);
     }
-    if metadata.len() != layout.metadata_length() {
+    if metadata.len() != plan.metadata {
         return Answer::Refused(Refusal::MetadataLength);
     }
     if z == 0 {
@@ -69,11 +71,12 @@ pub fn serve(heap: &mut [u8], metadata: &mut [u8], request: &[u8], source: &[u8]
     ensures { λ _. ⌜ now (metadata .exit) ≡ metadataAfter (layoutOf (length (now (heap .entry)))) (now (metadata .entry)) (serve (length (now (heap .entry))) (now (metadata .entry)) (now (request .entry)) (now (source .entry))) ⌝ }
     ensures { λ _. ⌜ now (heap .exit) ≡ heapAfter (now (heap .entry)) (serve (length (now (heap .entry))) (now (metadata .entry)) (now (request .entry)) (now (source .entry))) ⌝ }
 {
-    let layout = Layout::of(heap.len());
+    let plan = Plan::of(heap.len());
+    let layout = plan.layout;
     if layout.region == 0 {
         return Answer::Refused(Refusal::HeapLength);
     }
-    if metadata.len() != layout.metadata_length() {
+    if metadata.len() != plan.metadata {
         return Answer::Refused(Refusal::MetadataLength);
     }
     let Parsed::Whole(whole) = request::read(request) else {

@@ -10,12 +10,8 @@ of-requires c κs = search needs
 returns : tie.Need-returns
 returns c = rw (eq-eqb (regionOf (c .before .before .before .args .heap-len)) 0 (rw (c .before .before .of .ensures) at (c .if1 .taken)))
 
-metadata-length-requires : tie.Need-metadata-length-requires
-metadata-length-requires c κs = search needs
-
 returns-2 : tie.Need-returns-2
-returns-2 c = rw (ne-eqb (regionOf (c .before .before .before .before .args .heap-len)) 0 (rw (c .before .before .before .of .ensures) at (c .before .if1 .left)), ← c .before .before .before .of .ensures) (c .metadata-length .ensures)
+returns-2 c = rw (ne-eqb (regionOf (c .before .before .before .args .heap-len)) 0 (rw (c .before .before .of .ensures) at (c .if1 .left)), c .before .before .of .ensures)
 
 pub poheldu-metadata-length-spec : {M : Type 1} → statement M
-poheldu-metadata-length-spec =
-    tie.close (tie.spec of-requires returns metadata-length-requires returns-2)
+poheldu-metadata-length-spec = tie.close (tie.spec of-requires returns returns-2)

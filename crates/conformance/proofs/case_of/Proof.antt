@@ -30,9 +30,6 @@ mul-requests c = search needs
 of-requires : tie.Need-of-requires
 of-requires c κs = search needs
 
-metadata-length-requires : tie.Need-metadata-length-requires
-metadata-length-requires c κs = search needs
-
 at-most-requires-3 : tie.Need-at-most-requires-3
 at-most-requires-3 c κs = search needs
 
@@ -44,15 +41,14 @@ word-at-requires-4 c κs = search needs
 
 returns : tie.Need-returns
 returns c =
-    let header = c .before .before .before .before .before .before .before .before .before .before .args .header .now in
-    let heap = c .before .before .before .before .before .before .before .at-most in
-    let count = c .before .before .before .before .before .at-most2 in
-    let layout = c .before .before .before .before .of in
-    let bytes = c .before .before .before .metadata-length in
+    let header = c .before .before .before .before .before .before .before .before .before .args .header .now in
+    let heap = c .before .before .before .before .before .before .at-most in
+    let count = c .before .before .before .before .at-most2 in
+    let plan = c .before .before .before .of in
     let metadata = c .before .before .at-most3 in
-    let heap-is : heap .result ≡ min (wordAt header 0) 98304 = rw (c .before .before .before .before .before .before .before .before .word-at .ensures) at (heap .ensures .0) in
-    let count-is : count .result ≡ min (wordAt header 12) 1024 = rw (c .before .before .before .before .before .before .word-at2 .ensures) at (count .ensures .0) in
-    let metadata-is : metadata .result ≡ caseOf header .metadata = rw (bytes .ensures, layout .ensures, heap-is) at (metadata .ensures .0) in (
+    let heap-is : heap .result ≡ min (wordAt header 0) 98304 = rw (c .before .before .before .before .before .before .before .word-at .ensures) at (heap .ensures .0) in
+    let count-is : count .result ≡ min (wordAt header 12) 1024 = rw (c .before .before .before .before .before .word-at2 .ensures) at (count .ensures .0) in
+    let metadata-is : metadata .result ≡ caseOf header .metadata = rw (plan .ensures, heap-is) at (metadata .ensures .0) in (
       λ i. record {
         heap = heap-is i;
         metadata = metadata-is i;
@@ -75,7 +71,6 @@ case-of-spec =
     at-most-requires-2
     mul-requests
     of-requires
-    metadata-length-requires
     at-most-requires-3
     word-at-requires-3
     word-at-requires-4

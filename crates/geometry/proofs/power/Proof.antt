@@ -15,7 +15,7 @@ returns : tie.Need-returns
 returns c =
     let e = c .args .exponent in
     let q = shl-exact {a = 1} 1 e 32 (lit< tt) (omega arith) ∙ one-mul (2 ^ e) in
-    (q, rw q (pow-mono {i = e} {j = 20} (omega arith)))
+    (q, rw q (pow-mono {i = e} {j = 21} (omega arith)))
 
 pub power-spec : {M : Type 1} → statement M
 power-spec = tie.close (tie.spec shl-result returns)

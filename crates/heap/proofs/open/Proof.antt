@@ -1,10 +1,11 @@
 -- `heap::open` meets its contract: a law of `Opening` for each return.
+use mathlib.Core.Path.{_≡_}
 use native.Mathlib.Omega.{arith}
 use borrow.Author.Tests.{eq-eqb, ne-eqb}
 use borrow.Author.Needs.{needs}
 use lib.ListN.{length}
-use Rattle.geometry.specs.Layout.{classes}
-use Rattle.geometry.proofs.Geometry.{bitmap-after}
+use Rattle.geometry.specs.Layout.{classes, metadataLength}
+use Rattle.geometry.proofs.Geometry.{bitmap-after, plan-layout, plan-metadata}
 use Rattle.heap.proofs.Opening.{no-heap, other-length, no-seed, written}
 use Rattle.heap.proofs.open.Statement.{statement}
 use Rattle.heap.proofs.open.Tie as tie
@@ -14,35 +15,40 @@ of-requires c κs = search needs
 
 returns : tie.Need-returns
 returns c =
-    let a = c .before .before .before .before .before .args in
-    no-heap _ _ (a .z) (a .w) (c .before .before .of .ensures) (c .if1 .taken)
-
-metadata-length-requires : tie.Need-metadata-length-requires
-metadata-length-requires c κs = search needs
+    let a = c .before .before .before .before .before .before .args in
+    no-heap _ _ (a .z) (a .w) (plan-layout _ (c .before .before .before .of .ensures)) (c .if1 .taken)
 
 returns-2 : tie.Need-returns-2
 returns-2 c =
-    let a = c .before .before .before .before .before .before .before .args in
-    other-length _ _ (a .z) (a .w) (c .before .before .before .before .of .ensures) (c .before .before .if1 .left) (λ e. omega arith)
+    let a = c .before .before .before .before .before .before .before .before .args in
+    let of = c .before .before .before .before .before .of in
+    let size = plan-metadata _ (of .ensures) in
+    other-length _ _ (a .z) (a .w) (plan-layout _ (of .ensures)) (c .before .before .if1 .left) (λ e. omega arith)
+
+-- past the second test the metadata is as long as it should be
+fits : (c : tie.Else2) → length (c .before .before .before .before .before .before .before .before .args .metadata .now) ≡ metadataLength (c .before .before .before .before .before .of .result .layout)
+fits c = let size = plan-metadata _ (c .before .before .before .before .before .of .ensures) in omega arith
 
 returns-3 : tie.Need-returns-3
 returns-3 c =
-    let judged = c .before .before .before in
-    let a = judged .before .before .before .before .before .args in
-    no-seed _ _ (a .z) (a .w) (judged .before .before .of .ensures) (judged .if1 .left) (omega arith) (rw (eq-eqb _ _ (c .if3 .taken)))
+    let judged = c .before in
+    let a = judged .before .before .before .before .before .before .before .before .args in
+    no-seed _ _ (a .z) (a .w) (plan-layout _ (judged .before .before .before .before .before .of .ensures)) (judged .before .before .if1 .left) (fits judged) (rw (eq-eqb _ _ (c .if3 .taken)))
 
 returns-4 : tie.Need-returns-4
 returns-4 c =
-    let judged = c .before .before .before .before in
-    let a = judged .before .before .before .before .before .args in
-    no-seed _ _ (a .z) (a .w) (judged .before .before .of .ensures) (judged .if1 .left) (omega arith)
+    let judged = c .before .before in
+    let a = judged .before .before .before .before .before .before .before .before .args in
+    no-seed _ _ (a .z) (a .w) (plan-layout _ (judged .before .before .before .before .before .of .ensures)) (judged .before .before .if1 .left) (fits judged)
     (rw (ne-eqb _ _ (c .before .if3 .left), eq-eqb _ _ (c .if4 .taken)))
 
 clear-requires : tie.Need-clear-requires
 clear-requires c κs = search needs
 
 store-requires : tie.Need-store-requires
-store-requires c κs = omega (arith, bitmap-after (c .before .before .before .before .before .before .before .before .before .before .before .of .result) classes)
+store-requires c κs =
+    let judged = c .before .before .before .before .before .before .before in
+    omega (arith, bitmap-after (judged .before .before .before .before .before .of .result .layout) classes, fits judged)
 
 same-length : tie.Need-same-length
 same-length c = search needs
@@ -51,11 +57,11 @@ returns-5 : tie.Need-returns-5
 returns-5 c =
     let cleared = c .before .before .before .before .before .before in
     let seeded = cleared .before .before in
-    let judged = seeded .before .before .before .before in
-    let a = judged .before .before .before .before .before .args in
+    let judged = seeded .before .before in
+    let a = judged .before .before .before .before .before .before .before .before .args in
     rw (c .before .before .store .ensures)
-    (written (length (a .heap .now)) (a .metadata .now) (a .z) (a .w) (judged .before .before .of .ensures) (judged .if1 .left)
-    (omega arith) (seeded .before .if3 .left) (seeded .if4 .left) (cleared .clear .ensures))
+    (written (length (a .heap .now)) (a .metadata .now) (a .z) (a .w) (plan-layout _ (judged .before .before .before .before .before .of .ensures)) (judged .before .before .if1 .left)
+    (fits judged) (seeded .before .if3 .left) (seeded .if4 .left) (cleared .clear .ensures))
 
 pub open-spec : {M : Type 1} → statement M
 open-spec =
@@ -63,7 +69,6 @@ open-spec =
     (tie.spec
     of-requires
     returns
-    metadata-length-requires
     returns-2
     returns-3
     returns-4
