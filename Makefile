@@ -4,7 +4,8 @@
 # make fuzz     any bytes through the C interface, for FUZZ_SECONDS (60); wants clang
 # make expected writes crates/conformance/stdout anew, by the second implementation
 # make bench    ratios against the second implementation, memcpy, memcmp and malloc
-.PHONY: run test lib fuzz expected bench
+# make instructions  how many instructions a request takes; wants valgrind
+.PHONY: run test lib fuzz expected bench instructions
 
 FUZZ_SECONDS ?= 60
 
@@ -31,3 +32,6 @@ bench:
 	@mkdir -p target && { rt staticlib capi && rt check benchrun; } > target/bench.log 2>&1 || { tail -n 20 target/bench.log; exit 1; }
 	@cd tests && cargo build --release --offline --quiet
 	@target/tests/release/bench target/bin/benchrun
+
+instructions: lib
+	@tests/instructions

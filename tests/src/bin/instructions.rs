@@ -1,0 +1,70 @@
+//! One request after another, for a count of instructions by valgrind's callgrind (tests/instructions):
+//! `instructions ours|second REQUEST` serves the request once, on a heap with regions of 4,096 bytes.
+
+use poheldu_tests::capi;
+use poheldu_tests::reference::{self, Answer};
+use std::hint::black_box;
+use std::process::ExitCode;
+
+const HEAP: usize = 12 * 4096;
+
+/// Counted as `poheldu_serve` is: its name is what callgrind is told.
+#[inline(never)]
+fn second_serve(heap: &mut [u8], metadata: &mut [u8], request: &[u8], source: &[u8]) -> Answer {
+    reference::serve(heap, metadata, request, source)
+}
+
+fn request(operation: u32, argument: u32, count: u32) -> [u8; 16] {
+    let mut bytes = [0; 16];
+    for (word, value) in bytes.chunks_mut(4).zip([operation, argument, count, 0]) {
+        word.copy_from_slice(&value.to_le_bytes());
+    }
+    bytes
+}
+
+/// The request that a word names, and its source's length; `at` is an object of 256 bytes.
+fn named(word: &str, at: u32) -> Option<([u8; 16], usize)> {
+    Some(match word {
+        "malformed" => (request(9, 0, 0), 0),
+        "allocate-0" => (request(0, 0, 0), 0),
+        "allocate-8" => (request(0, 8, 0), 0),
+        "allocate-256" => (request(0, 256, 0), 0),
+        "free" => (request(1, at, 0), 0),
+        "free-inside" => (request(1, at + 1, 0), 0),
+        "remaining" => (request(2, at + 1, 0), 0),
+        "copy-0" => (request(3, at, 0), 0),
+        "copy-64" => (request(3, at, 0), 64),
+        "copy-256" => (request(3, at, 0), 256),
+        "string-256" => (request(4, at, 0), 256),
+        _ => return None,
+    })
+}
+
+fn main() -> ExitCode {
+    let words: Vec<String> = std::env::args().skip(1).collect();
+    let mut heap = vec![0; HEAP];
+    let mut metadata = vec![0; reference::metadata_length(HEAP)];
+    reference::open(&heap, &mut metadata, 1, 1);
+    let at = reference::serve(&mut heap, &mut metadata, &request(0, 256, 0), &[]).value;
+    let source = [65; 256];
+    let (who, what) = match &words[..] {
+        [who, word] => (who.as_str(), named(word, at)),
+        _ => ("", None),
+    };
+    let Some((bytes, length)) = what else {
+        eprintln!("usage: instructions ours|second REQUEST");
+        return ExitCode::from(2);
+    };
+    let serve = if who == "ours" {
+        capi::serve
+    } else {
+        second_serve
+    };
+    black_box(serve(
+        &mut heap,
+        &mut metadata,
+        black_box(&bytes),
+        black_box(&source[..length]),
+    ));
+    ExitCode::SUCCESS
+}
