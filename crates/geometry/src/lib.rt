@@ -53,7 +53,7 @@ impl Layout {
         if class < CLASSES { 8 << class } else { 0 }
     }
 
-    pub fn slots(self, class: usize) -> usize
+    fn slots(self, class: usize) -> usize
         ensures { λ r. ⌜ (r ≡ slots self class) × (r < 4294967296) ⌝ }
     {
         quotient(wide(self.region), self.slot_size(class))
