@@ -17,7 +17,7 @@ fn block_move(source: &[u8], target: &mut [u8]) -> usize
     if LONGEST < count {
         return bytes::copy(source, target);
     }
-    let mut block = [0u8; 16384];
+    let mut block = [0u8; LONGEST];
     bytes::copy(source, &mut block);
     bytes::copy(&block[0..count], target)
 }
