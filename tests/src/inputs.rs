@@ -356,7 +356,9 @@ fn block_length(rng: &mut Random) -> usize {
         0 => rng.pick(&[0, 4_097, 5_000]),
         1 => rng.pick(&[4_095, 4_096, 4_097]),
         2 => rng.between(1, 4_096),
-        3..=8 => rng.between(3, 100),
+        // Next to powers of two, where code that works by strides goes wrong.
+        3 => (1 << rng.between(3, 11)) + rng.below(3) - 1,
+        4..=8 => rng.between(3, 100),
         9..=15 => 2,
         _ => 1,
     }
