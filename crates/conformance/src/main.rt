@@ -6,8 +6,9 @@
 use geometry::Plan;
 use libc::STDIN_FILENO;
 use libc::STDOUT_FILENO;
+use numbers::least;
 ghost use mathlib.Core.Path.{_≡_};
-ghost use Prim.Native.Nat.{_+_, _≤_, min};
+ghost use Prim.Native.Nat.{_+_, _≤_};
 ghost use lib.ListN.{length};
 ghost use Rattle.answer.specs.Reply.{Reply};
 ghost use Rattle.writing.specs.Overwrite.{overwrite};
@@ -31,12 +32,6 @@ struct Ran {
     written: usize,
 }
 
-fn at_most(x: usize, most: usize) -> usize
-    ensures { λ r. ⌜ (r ≡ min x most) × (r ≤ most) ⌝ }
-{
-    if x < most { x } else { most }
-}
-
 fn word_at(header: &[u8], at: usize) -> u32
     requires { ⌜ at + 4 ≤ length (now header) ⌝ }
     ensures { λ r. ⌜ r ≡ wordAt (now (header .entry)) at ⌝ }
@@ -50,11 +45,11 @@ fn case_of(header: &[u8]) -> Case
     ensures { λ r. ⌜ r ≡ caseOf (now (header .entry)) ⌝ }
     ensures { λ r. ⌜ (r .heap ≤ 98304) × (r .metadata ≤ 4096) × (r .requests ≤ 16384) ⌝ }
 {
-    let heap = at_most(word_at(header, 0) as usize, 98304);
-    let requests = 16 * at_most(word_at(header, 12) as usize, 1024);
+    let heap = least(word_at(header, 0) as usize, 98304);
+    let requests = 16 * least(word_at(header, 12) as usize, 1024);
     Case {
         heap,
-        metadata: at_most(Plan::of(heap).metadata, 4096),
+        metadata: least(Plan::of(heap).metadata, 4096),
         z: word_at(header, 4),
         w: word_at(header, 8),
         requests,

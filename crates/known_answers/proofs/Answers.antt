@@ -13,8 +13,9 @@ use Rattle.request.specs.Parse.{parse}
 use Rattle.rules.specs.Allocate.{probe, allocate}
 use Rattle.rules.specs.Object.{free, space, remaining, copy}
 use Rattle.rules.specs.Serve.{serve}
-use Rattle.vote.specs.Decide.{alike, tabulate, digits, leader, count, decide}
-use Rattle.vote.proofs.Blocks.{alike-equal}
+use Rattle.alike.specs.Alike.{alike}
+use Rattle.vote.specs.Decide.{tabulate, digits, leader, count, decide}
+use Rattle.alike.proofs.Equal.{alike-equal}
 use Rattle.known_answers.specs.Table.{Row, table, start, request, outcomeOf, after, oneObject, numbers, copying, voting, row}
 
 -- the two sides of each row are the same numbers

@@ -5,18 +5,12 @@ use mathlib.Core.List.{List, [], _∷_, _++_}
 use lib.ListN.{length, take, getD}
 use lib.Dec.{ltb, eqb}
 use Rattle.search.specs.First.{first}
+use Rattle.alike.specs.Alike.{alike}
 use Rattle.words.specs.Word.{bytesOf}
 use Rattle.line.specs.Text.{bytes, find, skip, word, wordEnd}
 use Rattle.line.specs.Number.{limit, number}
 use Rattle.line.specs.declared.Line.{Line}
 use Rattle.line.specs.declared.Line.the-variants.{Request, Nothing, BadOperation, BadNumber, TrailingText, TooLong}
-
--- whether two texts are equal
-unfoldable pub same : List ℕ → List ℕ → Bool
-same [] [] = true
-same [] (b ∷ more) = false
-same (a ∷ rest) [] = false
-same (a ∷ rest) (b ∷ more) = eqb a b && same rest more
 
 -- the operations in the order of their numbers
 unfoldable pub names : List (List ℕ)
@@ -24,7 +18,7 @@ names = bytes "place" ∷ bytes "free" ∷ bytes "measure" ∷ bytes "copy" ∷ 
 
 -- the operation that a word names; 6 where it names none
 unfoldable pub operationOf : List ℕ → ℕ
-operationOf name = first (λ k. same name (getD names k [])) 0 6
+operationOf name = first (λ k. alike name (getD names k [])) 0 6
 
 -- a request, where its numbers are below the limit and only spaces are left from place a on
 unfoldable pub request : List ℕ → ℕ → ℕ → ℕ → ℕ → Line

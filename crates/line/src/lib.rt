@@ -6,7 +6,8 @@ ghost use mathlib.Core.Path.{_≡_};
 ghost use mathlib.Core.List.{[]};
 ghost use Prim.Native.Nat.{_%_, _<_, _≤_};
 ghost use lib.ListN.{length, getD};
-ghost use Rattle.line.specs.Line.{same, names, operationOf, request, numbers, statement, readLine, requestBytes};
+ghost use Rattle.alike.specs.Alike.{alike};
+ghost use Rattle.line.specs.Line.{names, operationOf, request, numbers, statement, readLine, requestBytes};
 
 pub enum Line {
     Request {
@@ -28,14 +29,14 @@ const OPERATIONS: u32 = 6;
 const COUNTED: u32 = 5;
 
 fn same(a: &[u8], b: &[u8]) -> bool
-    ensures { λ r. ⌜ r ≡ same (now (a .entry)) (now (b .entry)) ⌝ }
+    ensures { λ r. ⌜ r ≡ alike (now (a .entry)) (now (b .entry)) ⌝ }
 {
     check::same(a, b)
 }
 
 fn is_name(word: &[u8], operation: u32) -> bool
     requires { ⌜ operation < 6 ⌝ }
-    ensures { λ r. ⌜ r ≡ same (now (word .entry)) (getD names operation []) ⌝ }
+    ensures { λ r. ⌜ r ≡ alike (now (word .entry)) (getD names operation []) ⌝ }
 {
     match operation {
         0 => same(word, b"place"),

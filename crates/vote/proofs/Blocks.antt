@@ -10,7 +10,7 @@ use lib.Seq.{drop-cons}
 use lib.Bits.{bitOr, bitXor, or-add-and, xor-add-and, and-le-l, and-le-r, xor-self}
 use lib.Dec.{eqb}
 use borrow.Author.Tests.{eq-eqb, ne-eqb, eqb-true, eqb-false}
-use Rattle.vote.specs.Decide.{alike}
+use Rattle.alike.specs.Alike.{alike}
 use Rattle.vote.specs.Groups.{bytesAt, allAlike}
 
 -- the part of a slice that starts at `start` and has a block's size
@@ -29,24 +29,6 @@ module _ (blocks : List ℕ) (start size : ℕ) where
 -- the block of replica i is among those of k replicas
 pub block-within : (i k size : ℕ) → i < k → i * size + size ≤ k * size
 block-within i k size h = rw (← suc-mul) (mul-le-mul-right size h)
-
--- a block is alike to itself
-pub alike-self : (xs : List ℕ) → alike xs xs ≡ true
-unfolding alike
-alike-self [] = refl
-alike-self (x ∷ xs) = rw (eq-eqb x x refl) (alike-self xs)
-
--- blocks that are alike are equal
-pub alike-equal : (xs ys : List ℕ) → alike xs ys ≡ true → xs ≡ ys
-unfolding alike
-alike-equal [] [] h = refl
-alike-equal [] (y ∷ ys) h = cc
-alike-equal (x ∷ xs) [] h = cc
-alike-equal (x ∷ xs) (y ∷ ys) h = go (eqb x y) refl h (alike-equal xs ys)
-  where
-    go : (t : Bool) → eqb x y ≡ t → t && alike xs ys ≡ true → (alike xs ys ≡ true → xs ≡ ys) → x ∷ xs ≡ y ∷ ys
-    go true e h rest = cc (eqb-true x y e, rest h)
-    go false e h rest = cc
 
 -- no difference is left where there was none on either side
 or-none : (d e : ℕ) → eqb (bitOr d e) 0 ≡ eqb d 0 && eqb e 0

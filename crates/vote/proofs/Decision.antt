@@ -13,7 +13,8 @@ use Rattle.vote.specs.Groups.{electedOf}
 use Rattle.writing.specs.Overwrite.{clip}
 use Rattle.writing.proofs.Clip.{clip-fits}
 use Rattle.vote.specs.Decide.{blockOf, tabulate, agree, agreements, digits, votes, maskOf, leader, invalid, won, lost, count, decide}
-use Rattle.vote.proofs.Blocks.{part, part-block, part-length, block-within, alike-self}
+use Rattle.alike.proofs.Equal.{alike-self}
+use Rattle.vote.proofs.Blocks.{part, part-block, part-length, block-within}
 use Rattle.vote.proofs.Tables.{tabulate-at}
 use Rattle.vote.proofs.Winner.{mask-bit, digits-front, leader-le}
 

@@ -13,9 +13,10 @@ use lib.Dec.{ltb, eqb}
 use borrow.Author.Tests.{lt-ltb, le-ltb, eqb-true, eq-eqb, ne-eqb}
 use Rattle.search.specs.First.{first}
 use Rattle.search.proofs.First.{first-holds, first-same, first-range}
-use Rattle.vote.specs.Decide.{blockOf, alike, tabulate, agree, agreements}
+use Rattle.alike.specs.Alike.{alike}
+use Rattle.vote.specs.Decide.{blockOf, tabulate, agree, agreements}
 use Rattle.vote.specs.Groups.{bytesAt, matching, matchingAll, shared, restOf, lowest, groupOf, groupsOf, instead, together}
-use Rattle.vote.proofs.Blocks.{alike-self, alike-equal}
+use Rattle.alike.proofs.Equal.{alike-self, alike-equal}
 use Rattle.vote.proofs.Strides.{same-test, matching-self, matching-again, matching-thrice, shared-le}
 use Rattle.vote.proofs.Tables.{tabulate-at, tabulate-same, Filled, filled-to}
 

@@ -11,9 +11,11 @@ use lib.Seq.{take-nil, take-take, take-add, drop-drop}
 use borrow.Author.Tests.{not-false}
 use Rattle.search.specs.First.{first}
 use Rattle.search.proofs.First.{first-range, first-passes, first-before}
-use Rattle.vote.specs.Decide.{blockOf, alike}
+use Rattle.alike.specs.Alike.{alike}
+use Rattle.vote.specs.Decide.{blockOf}
 use Rattle.vote.specs.Groups.{bytesAt, allAlike, differ, matching, matchingAll, shared, restOf, lowestFrom, lowest}
-use Rattle.vote.proofs.Blocks.{block-within, alike-thrice, alike-self, alike-equal}
+use Rattle.alike.proofs.Equal.{alike-self, alike-equal}
+use Rattle.vote.proofs.Blocks.{block-within, alike-thrice}
 use Rattle.vote.proofs.Search.{first-agree, first-end, first-or}
 
 -- two tests are one where each follows from the other

@@ -5,6 +5,7 @@ use mathlib.Core.Bool.{Bool, true, false, not, cond, _&&_, _||_}
 use mathlib.Core.List.{List, [], _∷_, _++_}
 use lib.ListN.{length, getD, take, drop}
 use lib.Dec.{ltb, eqb}
+use Rattle.alike.specs.Alike.{alike}
 use Rattle.answer.specs.declared.Refusal.{Refusal}
 use Rattle.answer.specs.declared.Refusal.the-variants.{InvalidVote, NoAgreement}
 use Rattle.answer.specs.Reply.{numberOf}
@@ -16,13 +17,6 @@ use Rattle.vote.specs.declared.Verdict.the-variants.{Agreed, Refused}
 -- the block of replica r
 abbrev pub blockOf : List ℕ → ℕ → ℕ → List ℕ
 blockOf blocks size r = take size (drop (r * size) blocks)
-
--- the same bytes
-unfoldable pub alike : List ℕ → List ℕ → Bool
-alike [] [] = true
-alike [] (y ∷ ys) = false
-alike (x ∷ xs) [] = false
-alike (x ∷ xs) (y ∷ ys) = eqb x y && alike xs ys
 
 -- f at the n numbers from i on
 unfoldable pub tabulate : {A : Type 0} → (ℕ → A) → ℕ → ℕ → List A

@@ -6,7 +6,8 @@ use lib.ListN.{getD, take, drop}
 use lib.Dec.{ltb, eqb}
 use Rattle.search.specs.First.{first}
 use Rattle.vote.specs.declared.elect.Elected.{Elected}
-use Rattle.vote.specs.Decide.{blockOf, alike, tabulate, digits, votes, leader}
+use Rattle.alike.specs.Alike.{alike}
+use Rattle.vote.specs.Decide.{blockOf, tabulate, digits, votes, leader}
 
 -- ---- what all blocks share
 

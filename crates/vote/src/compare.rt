@@ -2,7 +2,8 @@
 ghost use mathlib.Core.Path.{_≡_};
 ghost use Prim.Native.Nat.{_+_, _*_, _≤_, _<_};
 ghost use lib.ListN.{length, getD};
-ghost use Rattle.vote.specs.Decide.{alike, tabulate, agreements};
+ghost use Rattle.alike.specs.Alike.{alike};
+ghost use Rattle.vote.specs.Decide.{tabulate, agreements};
 ghost use Rattle.vote.specs.Groups.{bytesAt, allAlike, matchingAll, shared, lowestFrom, instead, groupsOf, together};
 
 // Blocks are compared a stride at a time; a block under a stride, by shorter ones.

@@ -43,7 +43,8 @@ slot-start-requires c κs =
     let found = c .before .before .before .before .before .before .before .before in
     let read = found .before .before .before in
     let p = read .before .before .before .pre in
-    (p .0, p .2, taken-slot _ _ _ (p .4) (read .generator .ensures) (found .find .ensures) (p .3))
+    let within = taken-slot _ _ _ (p .4) (read .generator .ensures) (found .find .ensures) (p .3) in
+    (p .0, p .2, omega (arith, within))
 
 same-length : tie.Need-same-length
 same-length c = search needs

@@ -1,7 +1,7 @@
 use Prim.Native.Nat.{_+_, _-_, _≤_}
 use native.Mathlib.Omega.{arith}
 use lib.ListN.{length}
-use Rattle.vote.specs.Decide.{alike}
+use Rattle.alike.specs.Alike.{alike}
 use Rattle.vote.specs.Groups.{restOf}
 use Rattle.vote.proofs.Blocks.{block-within}
 use Rattle.vote.proofs.Search.{Searched, searched-none, searched-found, searched-more, searched-all}
