@@ -7,3 +7,4 @@ pub mod Pairing
 pub mod Objects
 pub mod Tracking
 pub mod Runs
+pub mod Examples

@@ -39,10 +39,10 @@ module _ (G : Layout) (m : List ℕ) where
   -- results with one change and one reply pair
   result-pair : {p q : Parsed} {o o′ : Outcome} {x : Change} → Result G m p o x → Result G m q o′ x
       → reply G o .number ≡ reply G o′ .number → reply G o .value ≡ reply G o′ .value → Pair G (eventBy G p o) (eventBy G q o′)
-  result-pair (refusal p r) (refusal q r′) e v = refusals (refusal-number r) e
+  result-pair (refusal p r) (refusal q r′) e v = refusals (refusal-number r) (cc)
   result-pair (refusal p r) (measuring b k value offset bytes) e v = absurd (refusal-number r e)
   result-pair (measuring a h value offset bytes) (refusal q r) e v = absurd (refusal-number r (sym e))
-  result-pair (measuring a h value offset bytes) (measuring b k value′ offset′ bytes′) e v = measurings a b refl refl h k refl refl v
+  result-pair (measuring a h value offset bytes) (measuring b k value′ offset′ bytes′) e v = measurings a b refl refl h k refl refl (cc)
   result-pair (allocation s c found takes) (allocation t d found′ takes′) e v = allocations s t refl refl (cc) refl refl
   result-pair (freeing offset start ends) (freeing offset′ start′ ends′) e v = frees offset refl (cc) refl refl
 

@@ -82,19 +82,21 @@ module _ (n : ℕ) (region : regionOf n ≡ 0 → ⊥) where
   runs-sound (suc k) [] h m fits os t = tracks-sound (layoutOf n) m os t
   runs-sound (suc k) (e ∷ es) (h, hs) m fits os t = runs-sound k es hs _ (step-fits m fits e h) _ (step-tracks m fits e h os t)
 
--- From one opening, the traces of two runs are equal exactly when their histories pair off; and in both, after every number of requests, no
--- byte lies in two live objects and no class is over half full.
-pub indistinguishable : (heapBytes : ℕ) (m : List ℕ) (s : Setup) → openReply heapBytes (length m) s .number ≡ 0
+-- On metadata of any earlier bytes, each just opened, with the same seeds on the same heap length: the traces of two runs are equal exactly
+-- when their histories pair off; and in both, after every number of requests, no byte lies in two live objects and no class is over half full.
+pub indistinguishable : (heapBytes : ℕ) (s : Setup) (m m′ : List ℕ)
+    → openReply heapBytes (length m) s .number ≡ 0 → openReply heapBytes (length m′) s .number ≡ 0
     → (es fs : List Entry) → length es ≡ length fs → HeapsOfLength heapBytes es → HeapsOfLength heapBytes fs
     → let G = layoutOf heapBytes in
     let start = opened heapBytes m s in
-    ((trace start es ≡ trace start fs) ↔ PairOff G (history start es) (history start fs))
-    × ((k : ℕ) → Sound G (live G [] (history start (take k es))) × Sound G (live G [] (history start (take k fs))))
-indistinguishable heapBytes m s e es fs l h k =
+    let start′ = opened heapBytes m′ s in
+    ((trace start es ≡ trace start′ fs) ↔ PairOff G (history start es) (history start′ fs))
+    × ((k : ℕ) → Sound G (live G [] (history start (take k es))) × Sound G (live G [] (history start′ (take k fs))))
+indistinguishable heapBytes s m m′ e e′ es fs l h k =
     let region = has-layout heapBytes m s e in
     let fits = fresh-fits (layoutOf heapBytes) s in
     let tracks = fresh-tracks (layoutOf heapBytes) s in
-    rw (opened-fresh heapBytes m s e) (
+    rw (opened-fresh heapBytes m s e, opened-fresh heapBytes m′ s e′) (
       traces-pair heapBytes region es fs l h k _ _ fits refl,
       λ j. (runs-sound heapBytes region j es h _ fits [] tracks, runs-sound heapBytes region j fs k _ fits [] tracks),
     )

@@ -1,6 +1,6 @@
 -- The live objects are the set slots.
 use Prim.Native.Nat.{ℕ, zero, suc, _+_, _*_, _≤_, _<_}
-use mathlib.Core.Path.{_≡_, refl, sym, _∙_}
+use mathlib.Core.Path.{_≡_, refl, sym, subst, _∙_}
 use mathlib.Core.List.{List, [], _∷_}
 use mathlib.Core.Logic.{Dec·and}
 use native.Mathlib.Decide.{ℕ-discrete}
@@ -54,7 +54,10 @@ pub record Tracks (G : Layout) (m : List ℕ) (os : List Object) : Type 0 where
 -- so they are sound
 pub tracks-sound : (G : Layout) (m : List ℕ) (os : List Object) → Tracks G m os → Sound G os
 tracks-sound G m os t =
-    record { apart = λ x. holding-one G x os (t .are-slots) (λ c i h. omega (arith, t .bits c i h)); half = t .half }
+    record {
+      apart = λ x. omega (arith, holding-one G x os (t .are-slots) (λ c i h. omega (arith, t .bits c i h)));
+      half = λ c. omega (arith, t .half c);
+    }
 
 -- fresh metadata has no objects
 pub fresh-tracks : (G : Layout) (s : Setup) → Tracks G (fresh G s) []
@@ -134,5 +137,5 @@ module _ (G : Layout) (m m′ : List ℕ) (os : List Object) (t : Tracks G m os)
   unfolding objectsAfter
   result-tracks (refusal p r) made = rw (made, ne-eqb (numberOf r) 0 (refusal-number r), objectsAfter) t
   result-tracks (allocation size class found takes) made = rw (← class) (allocation-tracks takes made)
-  result-tracks (freeing offset start ends) made = rw start (free-tracks made)
+  result-tracks (freeing offset start ends) made = subst (λ x. Tracks G m′ (without x os)) (sym start) (free-tracks made)
   result-tracks (measuring q h value offset bytes) made = rw (made, measuring-leaves G os q value h) t
