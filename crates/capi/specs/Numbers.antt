@@ -1,6 +1,5 @@
 -- Answers as the C interface gives them.
-use Prim.Native.Nat.{ℕ, _/_, _%_, _^_}
-use mathlib.Core.Path.{_≡_}
+use Prim.Native.Nat.{ℕ}
 use mathlib.Core.Bool.{cond}
 use lib.Dec.{eqb}
 use Rattle.answer.specs.Reply.{Reply}
@@ -13,11 +12,7 @@ abbrev pub replyIn : PohelduAnswer → Reply
 replyIn a = record { number = a .number; value = a .value }
 
 abbrev pub tallyIn : PohelduVerdict → Tally
-tallyIn v = record { number = v .number; mask = v .mask; value = v .value }
-
--- the replica named is a winner, or 0 on refusal
-abbrev pub NamesWinnerIn : PohelduVerdict → Type 0
-NamesWinnerIn v = (v .number ≡ 0 → v .mask / 2 ^ v .replica % 2 ≡ 1) × ((v .number ≡ 0 → ⊥) → v .replica ≡ 0)
+tallyIn v = record { number = v .number; mask = v .mask; value = v .value; replica = v .replica }
 
 -- the metadata's length for a heap's length; 0 where no heap has it
 abbrev pub metadataBytes : ℕ → ℕ

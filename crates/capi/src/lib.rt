@@ -6,8 +6,8 @@ ghost use Rattle.answer.specs.Reply.{replyOf};
 ghost use Rattle.rules.specs.Open.{setup, openReply, opened};
 ghost use Rattle.rules.specs.Outcome.{reply, metadataAfter, heapAfter};
 ghost use Rattle.rules.specs.Serve.{serve};
-ghost use Rattle.vote.specs.Decide.{decide, tally, outputAfter};
-ghost use Rattle.capi.specs.Numbers.{replyIn, tallyIn, NamesWinnerIn, metadataBytes};
+ghost use Rattle.vote.specs.Decide.{decide, tally, outputAfter, NamesWinner};
+ghost use Rattle.capi.specs.Numbers.{replyIn, tallyIn, metadataBytes};
 use answer::Answer;
 use geometry::Plan;
 use vote::Verdict;
@@ -64,9 +64,9 @@ pub extern "C" fn poheldu_vote(
     block_len: usize,
     output: &mut [u8],
 ) -> PohelduVerdict
-    ensures { λ r. ⌜ tallyIn r ≡ tally (decide (now (blocks .entry)) replicas «block_len» (length (now (output .entry)))) ⌝ }
+    ensures { λ r. ⌜ tallyIn r ≡ tally (decide (now (blocks .entry)) replicas «block_len» (length (now (output .entry)))) (r .replica) ⌝ }
     // Which of the winners is named is open: the rules let it be any one.
-    ensures { λ r. ⌜ NamesWinnerIn r ⌝ }
+    ensures { λ r. ⌜ NamesWinner (tallyIn r) ⌝ }
     ensures { λ _. ⌜ now (output .exit) ≡ outputAfter (decide (now (blocks .entry)) replicas «block_len» (length (now (output .entry)))) (now (output .entry)) ⌝ }
 {
     match vote::vote(blocks, replicas, block_len, output) {

@@ -23,7 +23,7 @@ pub fn free(metadata: &mut [u8], layout: Layout, offset: u32) -> Answer
     let at = layout.locate(offset);
     let class = at.class;
     let slot = at.slot;
-    if at.into != 0 {
+    if 0 < at.into {
         return Answer::Refused(Refusal::NotASlotStart);
     }
     let part = layout.part(class);

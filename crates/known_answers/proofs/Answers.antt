@@ -1,4 +1,4 @@
--- The whole table holds: one test, computed over all its rows, and one law that turns it into the equation of each.
+-- Both tables hold: a test, computed over all rows of each, and one law that turns it into the equation of each row.
 use Prim.Native.Nat.{ℕ, zero, suc, _<_}
 use mathlib.Core.Path.{_≡_, refl}
 use mathlib.Core.Bool.{Bool, true, false, false≢true, _&&_}
@@ -16,7 +16,9 @@ use Rattle.rules.specs.Serve.{serve}
 use Rattle.alike.specs.Alike.{alike}
 use Rattle.vote.specs.Decide.{tabulate, digits, leader, count, decide}
 use Rattle.alike.proofs.Equal.{alike-equal}
-use Rattle.known_answers.specs.Table.{Row, table, start, request, outcomeOf, after, oneObject, numbers, copying, voting, row}
+use Rattle.known_answers.specs.Calls.{Row, row, numbers, opening, clear, request, outcomeOf, answerTo, after, voting}
+use Rattle.known_answers.specs.Table.{table, start, oneObject, copying, bytesVoted}
+use Rattle.known_answers.specs.Further.{further, lastSet, firstSet, halfFull, strayBits, onlySlotSet}
 
 -- the two sides of each row are the same numbers
 allAlike : List Row → Bool
@@ -38,9 +40,17 @@ each (r ∷ rows) e zero h = alike-equal (r .computed) (r .expected) (both (alik
 each (r ∷ rows) e (suc i) h = each rows (both (alike (r .computed) (r .expected)) (allAlike rows) e .1) i (le-of-suc-le-suc h)
 
 computes : allAlike table ≡ true
-unfolding allAlike table start request outcomeOf after oneObject numbers copying voting row indexOf indexAfter first slotSize bitmapAt putByte countSet nextClear parse probe allocate free space remaining copy serve alike tabulate digits leader count decide
+unfolding allAlike table start request outcomeOf answerTo after oneObject numbers copying bytesVoted voting row indexOf indexAfter first slotSize bitmapAt putByte countSet nextClear parse probe allocate free space remaining copy serve alike tabulate digits leader count decide
 computes = refl
+
+further-computes : allAlike further ≡ true
+unfolding allAlike further lastSet firstSet halfFull strayBits onlySlotSet opening clear request outcomeOf answerTo after numbers voting row indexOf indexAfter first slotSize bitmapAt putByte countSet nextClear parse probe allocate free space remaining copy serve alike tabulate digits leader count decide
+further-computes = refl
 
 -- each of the twelve worked examples holds of the definitions
 pub worked-examples : (i : ℕ) → i < length table → getD table i nothing .computed ≡ getD table i nothing .expected
 worked-examples = each table computes
+
+-- and each of the further ones
+pub further-examples : (i : ℕ) → i < length further → getD further i nothing .computed ≡ getD further i nothing .expected
+further-examples = each further further-computes

@@ -1,1 +1,1 @@
-// The twelve worked examples of the rules that are to be proved, as one table. It has no code.
+// Worked examples of the rules, as two tables: the twelve that the rules name, and further ones. It has no code.

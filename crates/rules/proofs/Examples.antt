@@ -1,7 +1,7 @@
 -- Examples of the words that the theorem over runs is made of: what they hold of, and near misses of which they do not hold.
 use Prim.Native.Nat.{ℕ, _+_, _*_, _≤_}
 use mathlib.Core.Path.{_≡_, refl, subst, _∙_}
-use mathlib.Core.Bool.{Bool, true, false, cond, _&&_}
+use mathlib.Core.Bool.{Bool, true, false, cond, _&&_, and-false}
 use mathlib.Core.List.{List, [], _∷_}
 use native.Mathlib.Decide.{ℕ-discrete}
 use native.Mathlib.Omega.{arith}
@@ -34,10 +34,6 @@ at-most-one : (t : Bool) → cond t 1 0 ≤ 1
 at-most-one true = omega arith
 at-most-one false = omega arith
 
-none : (t : Bool) → _≡_ {A = ℕ} (cond (t && false) 1 0) 0
-none true = refl
-none false = refl
-
 -- two objects of a class with four slots or more, the second from the end of the first on
 module _ (G : Layout) (a b c : ℕ) (above : a + slotSize G c ≤ b) (room : 4 ≤ slots G c) where
   two : List Object
@@ -48,7 +44,7 @@ module _ (G : Layout) (a b c : ℕ) (above : a + slotSize G c ≤ b) (room : 4 �
   two-apart x true e =
       let h : leb b x ≡ false = lt-leb b x (omega (arith, ltb-true x (a + slotSize G c) e)) in
       rw (e, h) (omega (arith, at-most-one (leb a x && true)))
-  two-apart x false e = rw (e, none (leb a x)) (omega (arith, at-most-one (leb b x && ltb x (b + slotSize G c))))
+  two-apart x false e = rw (e, and-false (leb a x)) (omega (arith, at-most-one (leb b x && ltb x (b + slotSize G c))))
 
   two-half : (d : ℕ) → 2 * ofClass d two ≤ slots G d
   unfolding ofClass two

@@ -5,3 +5,4 @@ pub mod Search
 pub mod Strides
 pub mod Tables
 pub mod Winner
+pub mod Examples

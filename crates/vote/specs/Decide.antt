@@ -77,15 +77,21 @@ decide blocks k size outputLength =
 
 -- ---- what the caller sees
 
--- the paper's answer but for the replica that it names
+-- the paper's answer: replica is the number of one of the winners
 pub record Tally : Type 0 where
   pub number : ℕ
   pub mask : ℕ
   pub value : ℕ
+  pub replica : ℕ
 
-abbrev pub tally : Decision → Tally
-tally (won row block) = record { number = 0; mask = maskOf row; value = votes row }
-tally (lost r) = record { number = numberOf r; mask = 0; value = 0 }
+-- the answer that names a replica; on refusal all but the number is 0
+abbrev pub tally : Decision → ℕ → Tally
+tally (won row block) named = record { number = 0; mask = maskOf row; value = votes row; replica = named }
+tally (lost r) named = record { number = numberOf r; mask = 0; value = 0; replica = 0 }
+
+-- the replica that a served answer names is a winner, any one: its bit is set in the mask
+abbrev pub NamesWinner : Tally → Type 0
+NamesWinner t = t .number ≡ 0 → t .mask / 2 ^ t .replica % 2 ≡ 1
 
 -- the winning block at the front; further bytes are kept, and a refusal keeps all
 abbrev pub outputAfter : Decision → List ℕ → List ℕ
@@ -94,14 +100,5 @@ outputAfter (lost r) output = output
 
 -- the numbers of an answer
 abbrev pub tallyOf : Verdict → Tally
-tallyOf (Agreed mask count replica) = record { number = 0; mask = mask; value = count }
-tallyOf (Refused r) = record { number = numberOf r; mask = 0; value = 0 }
-
-abbrev pub replicaOf : Verdict → ℕ
-replicaOf (Agreed mask count replica) = replica
-replicaOf (Refused r) = 0
-
--- the replica that an answer names is a winner: its bit is set in the mask
-abbrev pub NamesWinner : Verdict → Type 0
-NamesWinner (Agreed mask count replica) = mask / 2 ^ replica % 2 ≡ 1
-NamesWinner (Refused r) = Unit {0}
+tallyOf (Agreed mask count named) = record { number = 0; mask = mask; value = count; replica = named }
+tallyOf (Refused r) = record { number = numberOf r; mask = 0; value = 0; replica = 0 }

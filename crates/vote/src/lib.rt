@@ -41,9 +41,9 @@ fn is_invalid(blocks_len: usize, replicas: usize, block_len: usize, output_len: 
 
 // Replicas lie one after another in `blocks`, a block each. The winning block goes to the front of `output`.
 pub fn vote(blocks: &[u8], replicas: usize, block_len: usize, output: &mut [u8]) -> Verdict
-    ensures numbers { λ r. ⌜ tallyOf r ≡ tally (decide (now (blocks .entry)) replicas «block_len» (length (now (output .entry)))) ⌝ }
+    ensures numbers { λ r. ⌜ tallyOf r ≡ tally (decide (now (blocks .entry)) replicas «block_len» (length (now (output .entry)))) (tallyOf r .replica) ⌝ }
     // Which of the winners is named is open: the rules let it be any one.
-    ensures named { λ r. ⌜ NamesWinner r ⌝ }
+    ensures named { λ r. ⌜ NamesWinner (tallyOf r) ⌝ }
     ensures written { λ _. ⌜ now (output .exit) ≡ outputAfter (decide (now (blocks .entry)) replicas «block_len» (length (now (output .entry)))) (now (output .entry)) ⌝ }
 {
     if is_invalid(blocks.len(), replicas, block_len, output.len()) {

@@ -1,8 +1,9 @@
 -- `heap::object::free` meets its contract: each refusal is the definition's, and the bitmap that comes back cleared is written over the old one.
 use Prim.Native.Nat.{_<_}
 use mathlib.Core.Path.{_≡_, refl}
-use mathlib.Core.Bool.{not, cond}
+use mathlib.Core.Bool.{not, cond, and-false}
 use native.Mathlib.Omega.{arith}
+use lib.Dec.{eqb}
 use borrow.Author.Tests.{le-leb, lt-ltb, le-ltb, eq-eqb, ne-eqb}
 use borrow.Author.Needs.{needs}
 use mir.Facts.{fits-below}
@@ -43,7 +44,8 @@ locate-requires c κs = search needs
 returns-2 : tie.Need-returns-2
 returns-2 c =
     let l = c .before .before in
-    rw (no-start _ _ _ (inside (l .before)) (l .locate .ensures) (rw (ne-eqb _ _ (c .if2 .taken)))) (refl, refl)
+    let past : l .locate .result .into ≡ 0 → ⊥ = λ e. omega arith in
+    rw (no-start _ _ _ (inside (l .before)) (l .locate .ensures) (rw (ne-eqb _ _ past))) (refl, refl)
 
 part-requires : tie.Need-part-requires
 part-requires c κs = search needs
@@ -52,7 +54,7 @@ returns-3 : tie.Need-returns-3
 returns-3 c =
     let l = c .before .before .before .before in
     rw (no-start _ _ _ (inside (l .before)) (l .locate .ensures)
-    (rw (eq-eqb _ _ (c .before .before .if2 .left), le-ltb _ _ (rw (c .before .part .ensures) at (c .if3 .taken))))) (refl, refl)
+    (rw (le-ltb _ _ (rw (c .before .part .ensures) at (c .if3 .taken))) (and-false (eqb (l .locate .result .into) 0)))) (refl, refl)
 
 sub-is-set : tie.Need-sub-is-set
 sub-is-set c = rises _ _ (c .before .part .ensures)
@@ -75,8 +77,9 @@ freeing : (c : tie.After-is-set)
 freeing c =
     let part = c .before .before .before .before in
     let l = c .before .before .before .before .before .before .before in
+    let start : l .locate .result .into ≡ 0 = omega arith in
     at-start _ _ _ (inside (l .before)) (l .locate .ensures)
-    (rw (eq-eqb _ _ (part .before .if2 .left), lt-ltb _ _ (rw (part .part .ensures) at (c .before .before .before .if3 .left))))
+    (rw (eq-eqb _ _ start, lt-ltb _ _ (rw (part .part .ensures) at (c .before .before .before .if3 .left))))
     (tested-live _ _ _ (l .locate .ensures) (part .part .ensures) (c .is-set .ensures))
 
 same-length : tie.Need-same-length

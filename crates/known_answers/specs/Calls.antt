@@ -1,0 +1,73 @@
+-- Calls and what they come to, as lists of numbers for tables of worked examples.
+use Prim.Native.Nat.{ℕ, _*_, _-_}
+use mathlib.Core.List.{List, [], _∷_, _++_}
+use lib.ListN.{length, replicate}
+use Rattle.words.specs.Word.{bytesOf}
+use Rattle.mwc.specs.declared.Generator.{Generator}
+use Rattle.geometry.specs.Layout.{layoutOf, classes, header, metadataLength}
+use Rattle.answer.specs.Reply.{Reply}
+use Rattle.rules.specs.Metadata.{fieldsOf}
+use Rattle.rules.specs.Open.{setup, openReply}
+use Rattle.rules.specs.Outcome.{Outcome, reply, metadataAfter}
+use Rattle.rules.specs.Serve.{serve}
+use Rattle.vote.specs.Decide.{Decision, Tally, decide, tally, outputAfter}
+
+-- what the definitions give, and what is right
+pub record Row : Type 0 where
+  pub computed : List ℕ
+  pub expected : List ℕ
+
+unfoldable pub row : List ℕ → List ℕ → Row
+row computed expected = record { computed = computed; expected = expected }
+
+abbrev pub seeds : ℕ → ℕ → Generator
+seeds z w = record { z = z; w = w }
+
+-- an answer's number and value
+unfoldable pub numbers : Reply → List ℕ
+numbers a = a .number ∷ a .value ∷ []
+
+-- ---- a heap with regions of R bytes
+
+abbrev pub heapOf : ℕ → ℕ
+heapOf R = classes * R
+
+-- the answer to an opening on metadata of some length
+unfoldable pub opening : ℕ → ℕ → ℕ → ℕ → List ℕ
+opening R metadataBytes z w = numbers (openReply (heapOf R) metadataBytes (setup z w))
+
+-- metadata with clear bitmaps and any generator, of an opening or not
+unfoldable pub clear : ℕ → ℕ → ℕ → List ℕ
+clear R z w = fieldsOf (seeds z w) ++ replicate (metadataLength (layoutOf (heapOf R)) - header) 0
+
+-- a request of an operation, its size or offset and its count
+unfoldable pub request : ℕ → ℕ → ℕ → List ℕ
+request operation argument count = bytesOf operation ++ bytesOf argument ++ bytesOf count ++ bytesOf 0
+
+abbrev pub allocate : ℕ → List ℕ
+allocate size = request 0 size 0
+
+abbrev pub free : ℕ → List ℕ
+free offset = request 1 offset 0
+
+abbrev pub remaining : ℕ → List ℕ
+remaining offset = request 2 offset 0
+
+-- what a request comes to on metadata m, its answer, and the metadata after it
+unfoldable pub outcomeOf : ℕ → List ℕ → List ℕ → List ℕ → Outcome
+outcomeOf R m r source = serve (heapOf R) m r source
+
+unfoldable pub answerTo : ℕ → List ℕ → List ℕ → List ℕ
+answerTo R m r = numbers (reply (layoutOf (heapOf R)) (outcomeOf R m r []))
+
+unfoldable pub after : ℕ → List ℕ → List ℕ → List ℕ
+after R m r = metadataAfter (layoutOf (heapOf R)) m (outcomeOf R m r [])
+
+-- ---- votes
+
+-- a vote of k replicas on blocks of some size: the answer's number, mask and value, and then the output, which was FF hex throughout
+unfoldable pub voting : List ℕ → ℕ → ℕ → ℕ → List ℕ
+voting blocks k size outputBytes =
+    let d : Decision = decide blocks k size outputBytes in
+    let t : Tally = tally d 0 in
+    t .number ∷ t .mask ∷ t .value ∷ outputAfter d (replicate outputBytes 0xff)

@@ -1,0 +1,95 @@
+-- Further worked examples: limits, edges, and metadata that no opening made. What is right was worked out from the paper, apart from the definitions.
+use Prim.Native.Nat.{ℕ, _*_}
+use mathlib.Core.List.{List, [], _∷_, _++_}
+use lib.ListN.{drop, set, replicate}
+use Rattle.geometry.specs.Layout.{layoutOf, header, classOf}
+use Rattle.known_answers.specs.Calls.{Row, row, heapOf, opening, clear, request, allocate, free, remaining, answerTo, after, voting}
+
+-- ---- regions of 4,096 bytes: class 4 has 32 slots of 128 bytes, and its bitmap is bytes 128 to 131
+
+-- w is one that draws leave as it is, so that each of the 32 tests slot 31, which is set
+unfoldable pub lastSet : List ℕ
+lastSet = set (clear 4_096 1 0x464fffff) 131 0x80
+
+-- each draw is 0, and slots 0, 1 and 3 are set
+unfoldable pub firstSet : List ℕ
+firstSet = set (clear 4_096 0 0) 128 0x0b
+
+-- one of the two slots of class 8 is set
+unfoldable pub halfFull : List ℕ
+halfFull = set (clear 4_096 0x9069 0x4650) 136 0x01
+
+-- ---- regions of 1,024 bytes: class 5 has 4 slots (byte 39), class 7 has 1 (byte 41, heap from 7,168), class 8 none (heap from 8,192)
+
+-- bits beyond the slots of class 5, and one of a slot
+unfoldable pub strayBits : List ℕ
+strayBits = set (clear 1_024 1 1) 39 0xf1
+
+unfoldable pub onlySlotSet : List ℕ
+onlySlotSet = set (clear 1_024 1 1) 41 0x01
+
+-- ---- the table
+
+unfoldable pub further : List Row
+further =
+    -- the walk goes round the end; z is that after 32 draws
+    row (answerTo 4_096 lastSet (allocate 128)) (0 ∷ 16_384 ∷ [])
+    ∷ row (after 4_096 lastSet (allocate 128)) (set (set (clear 4_096 0x57e707d4 0x464fffff) 131 0x80) 128 0x01)
+    -- the walk goes up from the slot tested to the next clear one
+    ∷ row (answerTo 4_096 firstSet (allocate 128)) (0 ∷ 16_640 ∷ [])
+    ∷ row (after 4_096 firstSet (allocate 128)) (set (clear 4_096 0 0) 128 0x0f)
+    -- refused at capacity, with the generator where it was
+    ∷ row (answerTo 4_096 halfFull (allocate 2_048)) (7 ∷ 0 ∷ [])
+    ∷ row (after 4_096 halfFull (allocate 2_048)) halfFull
+    -- bits beyond the slots are not counted, and kept: the third draw takes slot 3, and a free clears slot 0
+    ∷ row (answerTo 1_024 strayBits (allocate 256)) (0 ∷ 5_888 ∷ [])
+    ∷ row (drop header (after 1_024 strayBits (allocate 256))) (drop header (set (clear 1_024 1 1) 39 0xf9))
+    ∷ row (answerTo 1_024 strayBits (free 5_120)) (0 ∷ 256 ∷ [])
+    ∷ row (after 1_024 strayBits (free 5_120)) (set (clear 1_024 1 1) 39 0xf0)
+    -- a region without slots
+    ∷ row (answerTo 1_024 (clear 1_024 1 1) (allocate 2_048)) (6 ∷ 0 ∷ [])
+    ∷ row (answerTo 1_024 (clear 1_024 1 1) (free 8_192)) (9 ∷ 0 ∷ [])
+    ∷ row (answerTo 1_024 (clear 1_024 1 1) (remaining 8_192)) (0 ∷ 0 ∷ [])
+    -- a region with one slot, clear and then set
+    ∷ row (answerTo 1_024 (clear 1_024 1 1) (allocate 1_024)) (6 ∷ 0 ∷ [])
+    ∷ row (answerTo 1_024 (clear 1_024 1 1) (free 7_168)) (10 ∷ 0 ∷ [])
+    ∷ row (answerTo 1_024 (clear 1_024 1 1) (free 7_169)) (9 ∷ 0 ∷ [])
+    ∷ row (answerTo 1_024 onlySlotSet (remaining 7_170)) (0 ∷ 1_022 ∷ [])
+    ∷ row (answerTo 1_024 onlySlotSet (free 7_168)) (0 ∷ 1_024 ∷ [])
+    ∷ row (after 1_024 onlySlotSet (free 7_168)) (clear 1_024 1 1)
+    -- sizes and offsets
+    ∷ row (classOf (layoutOf (heapOf 32_768)) 16_384 ∷ classOf (layoutOf (heapOf 32_768)) 16_385 ∷ []) (11 ∷ 12 ∷ [])
+    ∷ row (answerTo 32_768 (clear 32_768 1 1) (allocate 16_384)) (0 ∷ 360_448 ∷ [])
+    ∷ row (answerTo 32_768 (clear 32_768 1 1) (allocate 16_385)) (5 ∷ 0 ∷ [])
+    ∷ row (answerTo 32_768 (clear 32_768 1 1) (allocate 0)) (5 ∷ 0 ∷ [])
+    ∷ row (answerTo 1_024 (clear 1_024 1 1) (remaining 12_287)) (0 ∷ 0 ∷ [])
+    ∷ row (answerTo 1_024 (clear 1_024 1 1) (remaining 12_288)) (8 ∷ 0 ∷ [])
+    -- requests: the last operation, none such, a count where there is none, and 15 and 17 bytes
+    ∷ row (answerTo 1_024 (clear 1_024 1 1) (request 5 0 1)) (0 ∷ 0 ∷ [])
+    ∷ row (answerTo 1_024 (clear 1_024 1 1) (request 6 0 0)) (4 ∷ 0 ∷ [])
+    ∷ row (answerTo 1_024 (clear 1_024 1 1) (request 4 0 1)) (4 ∷ 0 ∷ [])
+    ∷ row (answerTo 1_024 (clear 1_024 1 1) (drop 1 (remaining 0))) (4 ∷ 0 ∷ [])
+    ∷ row (answerTo 1_024 (clear 1_024 1 1) (remaining 0 ++ (0 ∷ []))) (4 ∷ 0 ∷ [])
+    -- openings: the shortest and the longest heap, half and twice that, no power of two, metadata a byte off, and seeds of 0
+    ∷ row (opening 1_024 42 1 1) (0 ∷ 0 ∷ [])
+    ∷ row (opening 1_048_576 32_768 1 1) (0 ∷ 0 ∷ [])
+    ∷ row (opening 512 42 1 1) (2 ∷ 0 ∷ [])
+    ∷ row (opening 2_097_152 65_536 1 1) (2 ∷ 0 ∷ [])
+    ∷ row (opening 1_536 42 1 1) (2 ∷ 0 ∷ [])
+    ∷ row (opening 1_024 41 1 1) (3 ∷ 0 ∷ [])
+    ∷ row (opening 1_024 43 0 0) (3 ∷ 0 ∷ [])
+    ∷ row (opening 1_024 42 0 1) (1 ∷ 0 ∷ [])
+    ∷ row (opening 1_024 42 1 0) (1 ∷ 0 ∷ [])
+    -- votes: 2 and 17 replicas, blocks of 0 and 4,097 bytes; 3 and 16 replicas, blocks of 4,096 bytes
+    ∷ row (voting (replicate 2 0x41) 2 1 1) (11 ∷ 0 ∷ 0 ∷ 0xff ∷ [])
+    ∷ row (voting (replicate 17 0x41) 17 1 1) (11 ∷ 0 ∷ 0 ∷ 0xff ∷ [])
+    ∷ row (voting [] 3 0 1) (11 ∷ 0 ∷ 0 ∷ 0xff ∷ [])
+    ∷ row (voting (replicate (3 * 4_097) 0x41) 3 4_097 4_097) (11 ∷ 0 ∷ 0 ∷ replicate 4_097 0xff)
+    ∷ row (voting (replicate 3 0x41) 3 1 1) (0 ∷ 7 ∷ 3 ∷ 0x41 ∷ [])
+    ∷ row (voting (replicate 16 0x41) 16 1 1) (0 ∷ 65_535 ∷ 16 ∷ 0x41 ∷ [])
+    ∷ row (voting (replicate (3 * 4_096) 0x41) 3 4_096 4_096) (0 ∷ 7 ∷ 3 ∷ replicate 4_096 0x41)
+    -- a buffer that is not all blocks, an output a byte too short, and one a byte longer
+    ∷ row (voting (replicate 7 0x41) 3 2 2) (11 ∷ 0 ∷ 0 ∷ 0xff ∷ 0xff ∷ [])
+    ∷ row (voting (replicate 6 0x41) 3 2 1) (11 ∷ 0 ∷ 0 ∷ 0xff ∷ [])
+    ∷ row (voting (replicate 6 0x41) 3 2 3) (0 ∷ 7 ∷ 3 ∷ 0x41 ∷ 0x41 ∷ 0xff ∷ [])
+    ∷ []
