@@ -1,4 +1,4 @@
--- Laws of the layout, each over the slot size and the class as variables.
+-- Laws of the layout over the class and the slot size as variables. What a slot size is, 8 · 2 ^ c, only `slot-size-of` and `slot-size-le` see.
 use Prim.Native.Nat.{ℕ, zero, suc, min, zero-le, _+_, _-_, _*_, _^_, _≤_, _<_}
 use mathlib.Core.Path.{_≡_, refl, sym, ap, subst, _∙_}
 use mathlib.Core.Bool.{Bool, true, false, cond}
