@@ -30,7 +30,7 @@ fuzz: fuzz-tools lib
 	clang -std=c11 -Wall -Wextra -Werror -g -O1 -fsanitize=fuzzer -Iinclude $(FUZZ_SOURCES) \
 		target/tests/fuzz/release/libpoheldu_tests.a target/staticlib/libcapi.a -o target/fuzz
 	@mkdir -p target/corpus
-	target/fuzz -max_total_time=$(FUZZ_SECONDS) -max_len=1024 -len_control=0 -verbosity=0 -artifact_prefix=target/ target/corpus
+	target/fuzz -max_total_time=$(FUZZ_SECONDS) -max_len=1024 -len_control=0 -verbosity=0 -error_exitcode=1 -artifact_prefix=target/ target/corpus
 
 fuzz-tools:
 	@echo 'int LLVMFuzzerTestOneInput(void) { return 0; }' | clang -fsanitize=fuzzer -x c - -o /dev/null 2> /dev/null || \

@@ -24,26 +24,31 @@ static size_t input_len;
 /* Where a failed input goes, and what says so: made beforehand, since a signal's handler may neither allocate nor print. */
 static char failed[4096], message[3 * sizeof failed];
 
+static void say(const char *text)
+{
+    if (write(STDERR_FILENO, text, strlen(text)) < 0)
+        _exit(2);
+}
+
 static void on_signal(int number)
 {
     const int file = open(failed, O_WRONLY | O_CREAT | O_TRUNC, 0644);
-    if (file >= 0 && write(file, input, input_len) == (ssize_t)input_len && close(file) == 0 &&
-        write(STDERR_FILENO, message, strlen(message)) > 0) {
-        signal(number, SIG_DFL);
-        raise(number);
-    }
-    _exit(2);
+    if (number == SIGSEGV || number == SIGBUS)
+        say("fuzz: a byte outside the buffers was touched\n");
+    if (file >= 0 && write(file, input, input_len) == (ssize_t)input_len)
+        say(message);
+    else
+        say("fuzz: FAILED, and the input could not be written\n");
+    _exit(1);
 }
 
 static void keep_failed(const char *program)
 {
+    static const int faults[] = {SIGABRT, SIGSEGV, SIGBUS, SIGILL, SIGFPE};
     snprintf(failed, sizeof failed, "%s.failed", program);
     snprintf(message, sizeof message, "fuzz: FAILED; again with: %s %s\n", program, failed);
-    signal(SIGABRT, on_signal);
-    signal(SIGSEGV, on_signal);
-    signal(SIGBUS, on_signal);
-    signal(SIGILL, on_signal);
-    signal(SIGFPE, on_signal);
+    for (size_t i = 0; i < sizeof faults / sizeof *faults; i++)
+        signal(faults[i], on_signal);
 }
 
 /* splitmix64 */

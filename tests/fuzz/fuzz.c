@@ -39,7 +39,7 @@ static void any_metadata_length(choices *c)
         call_metadata_length(next_word(c));
         break;
     default:
-        call_metadata_length(around(c, (size_t)CLASSES << below(c, 60)));
+        call_metadata_length(around(c, (size_t)CLASSES << (8 + below(c, 16)))); /* 10 to 20 are allowed */
     }
 }
 
