@@ -70,8 +70,8 @@ static void require_same_verdict(poheldu_verdict ours, poheldu_verdict theirs, b
 {
     if (ours.number == theirs.number && ours.mask == theirs.mask && ours.value == theirs.value && names_a_winner(ours) && all_equal(lent))
         return;
-    fprintf(stderr, "difference at a vote: library answers %" PRIu32 ", mask %" PRIx32 ", value %" PRIu32 ", replica %" PRIu32, ours.number, ours.mask,
-            ours.value, ours.replica);
+    fprintf(stderr, "difference at a vote: library answers %" PRIu32 ", mask %" PRIx32 ", value %" PRIu32 ", replica %" PRIu32, ours.number,
+            ours.mask, ours.value, ours.replica);
     fprintf(stderr, "; second implementation %" PRIu32 ", mask %" PRIx32 ", value %" PRIu32 "\n", theirs.number, theirs.mask, theirs.value);
     stop(lent);
 }
