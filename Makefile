@@ -1,13 +1,18 @@
 # make run      builds assemble and benchrun, proved, and serves the eight requests of examples/eight.txt
 # make test     the gate: proofs, must-fail edits, programs, and the tests below tests/
 # make lib      target/staticlib/libcapi.a, for C programs with include/poheldu.h
-# make fuzz     any bytes through the C interface, for FUZZ_SECONDS (60); wants clang
+# make fuzz     runs of calls held against the second implementation, for FUZZ_SECONDS (60); wants clang
+# make soak     the differential test for SOAK_CALLS (100000000) calls, from a seed that it prints; SEED=N repeats one
 # make expected writes crates/conformance/stdout anew, by the second implementation
 # make bench    ratios against the second implementation, memcpy, memcmp and malloc
 # make instructions  how many instructions a request takes; wants valgrind
-.PHONY: run test lib fuzz expected bench instructions
+.PHONY: run test lib fuzz fuzz-tools soak expected bench instructions
 
 FUZZ_SECONDS ?= 60
+FUZZ_SOURCES = $(filter-out tests/fuzz/driver.c,$(wildcard tests/fuzz/*.c))
+FUZZ_COVERAGE = -Cpasses=sancov-module -Cllvm-args=-sanitizer-coverage-level=4 -Cllvm-args=-sanitizer-coverage-inline-8bit-counters \
+	-Cllvm-args=-sanitizer-coverage-pc-table
+SOAK_CALLS ?= 100000000
 
 run:
 	@mkdir -p target && rt check assemble benchrun > target/run.log 2>&1 || { tail -n 20 target/run.log; exit 1; }
@@ -19,10 +24,21 @@ test:
 lib:
 	rt staticlib capi
 
-fuzz: lib
-	@command -v clang > /dev/null || { echo "make fuzz: clang is not installed (Debian packages clang and libclang-rt-14-dev)"; exit 1; }
-	clang -g -O1 -fsanitize=fuzzer -Iinclude tests/fuzz/fuzz.c target/staticlib/libcapi.a -o target/fuzz
-	target/fuzz -max_total_time=$(FUZZ_SECONDS) -max_len=2000 -print_final_stats=1
+# The search is guided by what runs in the second implementation and the harness, which are built for that; the library is as it is.
+fuzz: fuzz-tools lib
+	cd tests && cargo rustc --release --offline --quiet --lib --target-dir ../target/tests/fuzz -- $(FUZZ_COVERAGE)
+	clang -std=c11 -Wall -Wextra -Werror -g -O1 -fsanitize=fuzzer -Iinclude $(FUZZ_SOURCES) \
+		target/tests/fuzz/release/libpoheldu_tests.a target/staticlib/libcapi.a -o target/fuzz
+	@mkdir -p target/corpus
+	target/fuzz -max_total_time=$(FUZZ_SECONDS) -max_len=1024 -len_control=0 -verbosity=0 -error_exitcode=1 -artifact_prefix=target/ target/corpus
+
+fuzz-tools:
+	@echo 'int LLVMFuzzerTestOneInput(void) { return 0; }' | clang -fsanitize=fuzzer -x c - -o /dev/null 2> /dev/null || \
+		{ echo "make fuzz: clang and its libFuzzer are wanted (Debian packages clang and libclang-rt-14-dev)"; exit 1; }
+
+soak: lib
+	@cd tests && cargo build --release --offline --quiet
+	@target/tests/release/differential --calls $(SOAK_CALLS) $(if $(SEED),--seed $(SEED)) --progress
 
 expected: lib
 	cd tests && cargo build --release --offline --quiet

@@ -13,7 +13,8 @@ fn main() {
         std::process::exit(1);
     }
     println!("cargo:rustc-link-search=native={}", folder.display());
-    println!("cargo:rustc-link-lib=static=capi");
+    // Not within this package's own static library: what links that links both.
+    println!("cargo:rustc-link-lib=static:-bundle=capi");
 }
 
 fn library_folder() -> PathBuf {

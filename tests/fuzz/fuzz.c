@@ -1,109 +1,220 @@
 /*
- * Any bytes through poheldu_serve and poheldu_vote. A number is known; a refusal has value 0 and changes no byte; buffers end at a guard
- * page, so that a byte too far faults.
+ * An input is a list of choices: a heap, its metadata, and a run of calls on it, most of them such as a program makes and some of them such as an
+ * attacker would. Each is held against the second implementation (calls.h). For clang's libFuzzer, or the main of driver.c.
  */
-#include "poheldu.h"
+#define _DEFAULT_SOURCE /* stat, clock_gettime */
+#include "run.h"
 
+#include <stdio.h>
 #include <stdlib.h>
-#include <string.h>
-#include <sys/mman.h>
+#include <sys/stat.h>
+#include <time.h>
 #include <unistd.h>
 
-enum { HEAP = 12 * 1024, METADATA = 42, LARGEST = 16 * 4096 };
+enum { REGIONS = 4, SECONDS_TO_SEE_ALL = 30 };
 
-/* len bytes that end where an unreadable page begins. */
-static uint8_t *guarded(size_t len)
+/* Short regions fill sooner, and comparing them takes less time; the differential test has all eleven lengths. */
+static const size_t region_lengths[REGIONS] = {1024, 4096, 2048, 8192};
+
+static struct {
+    twin heaps[REGIONS], metadata[REGIONS];
+    twin request, source, blocks, output;
+} made;
+
+/* ---- steps */
+
+size_t any_huge(choices *c)
 {
-    const size_t page = (size_t)sysconf(_SC_PAGESIZE), whole = (len + page - 1) / page * page;
-    uint8_t *const start = mmap(NULL, whole + page, PROT_READ | PROT_WRITE, MAP_PRIVATE | MAP_ANONYMOUS, -1, 0);
-    if (start == MAP_FAILED || mprotect(start + whole, page, PROT_NONE) != 0)
-        abort();
-    return start + whole - len;
+    static const size_t huge[] = {(size_t)1 << 32, ((size_t)1 << 32) + 3, (size_t)1 << 62, (size_t)1 << 63, SIZE_MAX - 1, SIZE_MAX};
+    return PICK(c, huge);
 }
 
-static void require(int holds)
+static void any_metadata_length(choices *c)
 {
-    if (!holds)
-        abort();
-}
-
-/* The last len bytes before a guard page, holding data. */
-static uint8_t *at_end(uint8_t *buffer, size_t room, const uint8_t *data, size_t len)
-{
-    uint8_t *const start = buffer + room - len;
-    if (len > 0)
-        memcpy(start, data, len);
-    return start;
-}
-
-/* Up to most bytes off the front of the input. */
-static size_t take(const uint8_t **data, size_t *size, size_t most, const uint8_t **part)
-{
-    const size_t len = *size < most ? *size : most;
-    *part = *data;
-    *data += len;
-    *size -= len;
-    return len;
-}
-
-static void fuzz_serve(const uint8_t *data, size_t size)
-{
-    static uint8_t *heap, *metadata, *request, *source, before[HEAP + METADATA];
-    if (heap == NULL) {
-        heap = guarded(HEAP);
-        metadata = guarded(METADATA);
-        request = guarded(32);
-        source = guarded(LARGEST);
-        require(poheldu_open(heap, HEAP, metadata, METADATA, 1, 1).number == 0);
+    switch (below(c, 4)) {
+    case 0:
+        call_metadata_length(any_huge(c));
+        break;
+    case 1:
+        call_metadata_length(next_word(c));
+        break;
+    default:
+        call_metadata_length(around(c, (size_t)CLASSES << (8 + below(c, 16)))); /* 10 to 20 are allowed */
     }
-    const uint8_t *part;
-    const size_t given = take(&data, &size, METADATA, &part);
-    memcpy(metadata, part, given);
-    const size_t request_len = take(&data, &size, given > 0 && part[0] % 8 == 0 ? 17 : 16, &part);
-    const uint8_t *const r = at_end(request, 32, part, request_len);
-    const size_t source_len = take(&data, &size, LARGEST, &part);
-    const uint8_t *const s = at_end(source, LARGEST, part, source_len);
-    memcpy(before, heap, HEAP);
-    memcpy(before + HEAP, metadata, METADATA);
-    const poheldu_answer a = poheldu_serve(heap, HEAP, metadata, METADATA, r, request_len, s, source_len);
-    require(a.number <= 10 && a.number != 1);
-    if (a.number != 0)
-        require(a.value == 0 && memcmp(before, heap, HEAP) == 0 && memcmp(before + HEAP, metadata, METADATA) == 0);
 }
 
-static void fuzz_vote(const uint8_t *data, size_t size)
+static void cut_or_stretch(choices *c, twin *t)
 {
-    static uint8_t *blocks, *output, before[4200];
-    if (blocks == NULL) {
-        blocks = guarded(LARGEST);
-        output = guarded(4200);
+    static const size_t steps[] = {1, 2, 3, 4, 8, 12};
+    const size_t step = PICK(c, steps);
+    switch (below(c, 6)) {
+    case 0:
+        twin_lend(t, t->len + step);
+        break;
+    case 1:
+        twin_lend(t, t->len / step / 2);
+        break;
+    case 2:
+        twin_lend(t, 0);
+        break;
+    default:
+        twin_lend(t, t->len - step);
     }
-    if (size < 3)
-        return;
-    const size_t replicas = data[0] % 19, block = data[1] % 4 == 0 ? 1u + data[2] : (size - 3) / (replicas + (replicas == 0));
-    const size_t output_len = data[1] % 8 == 1 ? 1 : 4200;
-    const uint8_t *part;
-    data += 3;
-    size -= 3;
-    const size_t len = take(&data, &size, data[-2] % 16 == 2 ? LARGEST : replicas * block, &part);
-    if (len > LARGEST)
-        return;
-    memcpy(before, output, 4200);
-    const poheldu_verdict v = poheldu_vote(at_end(blocks, LARGEST, part, len), len, replicas, block, output + 4200 - output_len, output_len);
-    require(v.number == 0 || v.number == 11 || v.number == 12);
-    if (v.number != 0)
-        require(v.mask == 0 && v.value == 0 && v.replica == 0 && memcmp(before, output, 4200) == 0);
+}
+
+/* One call whose heap, metadata or both have another length: seeds and request may be wrong too, and what is refused first shows. */
+static void wrong_lengths(run *r)
+{
+    const size_t heap_len = r->lent.heap->len, metadata_len = r->lent.metadata->len;
+    const uint32_t which = below(&r->input, 4);
+    if (which != 1)
+        cut_or_stretch(&r->input, r->lent.metadata);
+    if (which == 1 || which == 2)
+        cut_or_stretch(&r->input, r->lent.heap);
+    if (below(&r->input, 2) == 0)
+        serve_any(r);
     else
-        require(v.value >= 2 && v.mask >> v.replica & 1 && v.value == (uint32_t)__builtin_popcount(v.mask));
+        open_any(r);
+    twin_lend(r->lent.heap, heap_len);
+    twin_lend(r->lent.metadata, metadata_len);
+}
+
+/* To the class's capacity, or close to it. */
+static void fill_class(run *r)
+{
+    const uint32_t class = below(&r->input, CLASSES), half = slots(r, class) / 2, most = half < 64 ? half : 64;
+    allocate_some(r, class, 1 + below(&r->input, most + 1));
+}
+
+static void step(run *r)
+{
+    switch (below(&r->input, 32)) {
+    case 0:
+        open_any(r);
+        break;
+    case 1:
+        damage_metadata(r);
+        break;
+    case 2:
+        wrong_lengths(r);
+        break;
+    case 3:
+        any_metadata_length(&r->input);
+        break;
+    case 4:
+        fill_class(r);
+        break;
+    case 5:
+        allocate_some(r, set_trap(r), 2);
+        break;
+    case 6:
+    case 7:
+    case 8:
+        vote_any(r);
+        break;
+    default:
+        serve_any(r);
+    }
+}
+
+/* ---- a run */
+
+static void make_buffers(void)
+{
+    for (int i = 0; i < REGIONS; i++) {
+        const size_t heap_len = CLASSES * region_lengths[i];
+        made.heaps[i] = twin_new("heap", heap_len);
+        made.metadata[i] = twin_new("metadata", poheldu_metadata_length(heap_len));
+    }
+    made.request = twin_new("request", LONGEST_REQUEST);
+    made.source = twin_new("source", LONGEST_SOURCE);
+    made.blocks = twin_new("blocks", MOST_REPLICAS * LONGEST_BLOCK);
+    made.output = twin_new("output", LONGEST_OUTPUT);
+}
+
+/* At which end of its room each buffer lies. */
+static void place(twin *t, bool at_end, size_t len)
+{
+    t->at_end = at_end;
+    twin_lend(t, len);
+}
+
+static run new_run(const uint8_t *data, size_t size)
+{
+    static const uint8_t often[] = {0, 0, 0, 1, 1, 1, 2, 3};
+    choices input = {data, data + size};
+    const uint8_t which = PICK(&input, often), ends = next_byte(&input);
+    const size_t region = region_lengths[which];
+    place(&made.heaps[which], (ends & 1) == 0, CLASSES * region);
+    place(&made.metadata[which], (ends & 2) == 0, poheldu_metadata_length(CLASSES * region));
+    place(&made.request, (ends & 4) == 0, 0);
+    place(&made.source, (ends & 8) == 0, 0);
+    place(&made.blocks, (ends & 16) == 0, 0);
+    place(&made.output, (ends & 32) == 0, 0);
+    return (run){.input = input,
+                 .region = region,
+                 .lent = {&made.heaps[which], &made.metadata[which]},
+                 .request = &made.request,
+                 .source = &made.source,
+                 .blocks = &made.blocks,
+                 .output = &made.output};
+}
+
+static void run_all(run *r)
+{
+    twin_fill(r->lent.heap, 0);
+    twin_fill(r->lent.metadata, 0);
+    if (below(&r->input, 3) == 2)
+        foreign_metadata(r);
+    else
+        open_any(r);
+    while (r->input.at < r->input.end)
+        step(r);
+}
+
+/* ---- what a fuzzer calls */
+
+static time_t started;
+static bool repeats;
+
+static time_t seconds(void)
+{
+    struct timespec now;
+    clock_gettime(CLOCK_MONOTONIC, &now);
+    return now.tv_sec;
+}
+
+static void require_all(const char *when)
+{
+    if (repeats || calls_saw_all())
+        return;
+    calls_report();
+    fprintf(stderr, "fuzz: FAILED: what has a count of 0 above did not come %s\n", when);
+    _exit(1);
+}
+
+static void finish(void)
+{
+    require_all("in this run");
+    calls_report();
+}
+
+/* A file among the arguments is an input to be repeated, which need not see all. */
+int LLVMFuzzerInitialize(int *argc, char ***argv)
+{
+    struct stat file;
+    for (int i = 1; i < *argc; i++)
+        repeats = repeats || (stat((*argv)[i], &file) == 0 && S_ISREG(file.st_mode));
+    started = seconds();
+    make_buffers();
+    return atexit(finish);
 }
 
 int LLVMFuzzerTestOneInput(const uint8_t *data, size_t size)
 {
-    if (size > 0) {
-        if (data[0] % 4 == 3)
-            fuzz_vote(data + 1, size - 1);
-        else
-            fuzz_serve(data + 1, size - 1);
-    }
+    run r = new_run(data, size);
+    run_all(&r);
+    if (seconds() - started > SECONDS_TO_SEE_ALL)
+        require_all("in the first 30 seconds");
     return 0;
 }

@@ -1,5 +1,5 @@
 //! The proved library's C interface, with safe wrappers over slices.
-//! All unsafe code of this package is here.
+//! All unsafe code of this package is here and in `exported`.
 
 use crate::reference::{Answer, Verdict};
 

@@ -1,7 +1,8 @@
 //! Holds the proved library against the second implementation, over random,
 //! edge and damaged inputs: every answer, and every byte after every call.
 //!
-//! Arguments: --calls N (default 1,000,000), --seed N (default: from the clock).
+//! Arguments: --calls N (default 1,000,000), --seed N (default: from the clock),
+//! --progress (a line on standard error at each twentieth of the calls).
 
 use poheldu_tests::compare::{Tester, Twin};
 use poheldu_tests::inputs::{self, Shape, CLASSES, STUCK_W, STUCK_Z};
@@ -10,6 +11,7 @@ use poheldu_tests::reference::Answer;
 use std::time::{SystemTime, UNIX_EPOCH};
 
 const DEFAULT_CALLS: u64 = 1_000_000;
+const PROGRESS_LINES: u64 = 20;
 const ALLOCATE: u8 = 0;
 const FREE: u8 = 1;
 const REMAINING: u8 = 2;
@@ -18,10 +20,15 @@ const COPY_STRING: u8 = 4;
 const COPY_PADDED: u8 = 5;
 
 fn main() {
-    let (calls, seed) = arguments();
+    let Arguments {
+        calls,
+        seed,
+        progress,
+    } = Arguments::read();
     println!("differential: seed {seed}");
     let mut tester = Tester::new(seed);
     let mut rng = Random::new(seed);
+    let mut next_line = calls / PROGRESS_LINES;
     document_cases(&mut tester);
     null_buffers(&mut tester);
     too_long(&mut tester);
@@ -34,22 +41,56 @@ fn main() {
     huge_votes(&mut tester);
     while tester.calls < calls {
         random_calls(&mut tester, &mut rng, calls);
+        if progress && tester.calls >= next_line {
+            show_progress(&tester, calls);
+            next_line = tester.calls + calls / PROGRESS_LINES;
+        }
     }
     report(&tester);
 }
 
-fn arguments() -> (u64, u64) {
-    let (mut calls, mut seed) = (DEFAULT_CALLS, clock());
-    let mut words = std::env::args().skip(1);
-    while let Some(word) = words.next() {
-        let number = words.next().and_then(|number| number.parse().ok());
-        match (word.as_str(), number) {
-            ("--calls", Some(number)) => calls = number,
-            ("--seed", Some(number)) => seed = number,
-            _ => stop("usage: differential [--calls N] [--seed N]"),
+struct Arguments {
+    calls: u64,
+    seed: u64,
+    progress: bool,
+}
+
+impl Arguments {
+    fn read() -> Arguments {
+        let mut read = Arguments {
+            calls: DEFAULT_CALLS,
+            seed: clock(),
+            progress: false,
+        };
+        let mut words = std::env::args().skip(1);
+        while let Some(word) = words.next() {
+            match word.as_str() {
+                "--calls" => read.calls = number(words.next()),
+                "--seed" => read.seed = number(words.next()),
+                "--progress" => read.progress = true,
+                _ => usage(),
+            }
         }
+        read
     }
-    (calls, seed)
+}
+
+fn number(word: Option<String>) -> u64 {
+    let number = word.and_then(|word| word.parse().ok());
+    number.unwrap_or_else(|| usage())
+}
+
+fn usage() -> ! {
+    stop("usage: differential [--calls N] [--seed N] [--progress]")
+}
+
+fn show_progress(tester: &Tester, calls: u64) {
+    let refusals: u64 = tester.counts[1..].iter().sum();
+    let percent = 100 * tester.calls / calls;
+    eprintln!(
+        "{percent:3} %: {} calls, {refusals} refusals, no difference",
+        tester.calls
+    );
 }
 
 fn clock() -> u64 {

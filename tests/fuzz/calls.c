@@ -1,0 +1,164 @@
+#include "calls.h"
+
+#include "second.h"
+
+#include <inttypes.h>
+#include <stdio.h>
+#include <stdlib.h>
+
+enum { NUMBERS = POHELDU_NO_AGREEMENT + 1, OPERATIONS = 6, CLASSES = 12, REPLICAS = 16 };
+
+static struct {
+    uint64_t numbers[NUMBERS];   /* answers, by refusal number */
+    uint64_t served[OPERATIONS]; /* served requests, by operation */
+    uint64_t requests, walks;    /* walks: allocations that took another slot than the last one drawn */
+} seen;
+
+/* ---- differences */
+
+/* The buffers of a call. */
+typedef struct {
+    const twin *const *of;
+    size_t count;
+} buffers;
+
+#define BUFFERS(...) ((buffers){(const twin *const[]){__VA_ARGS__}, sizeof((const twin *const[]){__VA_ARGS__}) / sizeof(twin *)})
+
+static bool all_equal(buffers lent)
+{
+    bool equal = true;
+    for (size_t i = 0; i < lent.count; i++)
+        equal = equal && twin_equal(lent.of[i]);
+    return equal;
+}
+
+static void show_bytes(const twin *t)
+{
+    const size_t most = 160;
+    fprintf(stderr, "%s after the call, %zu bytes:", t->name, t->len);
+    for (size_t i = 0; i < t->len && i < most; i++)
+        fprintf(stderr, " %02x", t->ours[t->start + i]);
+    fprintf(stderr, "%s\n", t->len > most ? " .." : "");
+}
+
+/* What was said of the difference is on standard error already; the buffers come after it. */
+static _Noreturn void stop(buffers lent)
+{
+    for (size_t i = 0; i < lent.count; i++) {
+        show_bytes(lent.of[i]);
+        twin_show_difference(lent.of[i]);
+    }
+    abort();
+}
+
+static void require_same(poheldu_answer ours, poheldu_answer theirs, const char *call, buffers lent)
+{
+    if (ours.number == theirs.number && ours.value == theirs.value && all_equal(lent))
+        return;
+    fprintf(stderr, "difference at %s: library answers %" PRIu32 ", value %" PRIu32 "; second implementation %" PRIu32 ", value %" PRIu32 "\n", call,
+            ours.number, ours.value, theirs.number, theirs.value);
+    stop(lent);
+}
+
+/* Which winner a served vote names is open; all else is fixed. */
+static bool names_a_winner(poheldu_verdict v)
+{
+    return v.number == POHELDU_SERVED ? v.replica < REPLICAS && (v.mask >> v.replica & 1) == 1 : v.replica == 0;
+}
+
+static void require_same_verdict(poheldu_verdict ours, poheldu_verdict theirs, buffers lent)
+{
+    if (ours.number == theirs.number && ours.mask == theirs.mask && ours.value == theirs.value && names_a_winner(ours) && all_equal(lent))
+        return;
+    fprintf(stderr, "difference at a vote: library answers %" PRIu32 ", mask %" PRIx32 ", value %" PRIu32 ", replica %" PRIu32, ours.number,
+            ours.mask, ours.value, ours.replica);
+    fprintf(stderr, "; second implementation %" PRIu32 ", mask %" PRIx32 ", value %" PRIu32 "\n", theirs.number, theirs.mask, theirs.value);
+    stop(lent);
+}
+
+/* ---- counts */
+
+/* The metadata still show the last draw. Regions here have at most 65,536 slots, so that the low half of w alone chooses. */
+static bool was_walk(lent_heap h, uint32_t offset)
+{
+    const uint8_t *const metadata = twin_ours(h.metadata);
+    const size_t region = h.heap->len / CLASSES, slot_size = (size_t)8 << offset / region;
+    const size_t drawn = (metadata[4] | (size_t)metadata[5] << 8) % (region / slot_size);
+    return drawn != offset % region / slot_size;
+}
+
+static void count_served(lent_heap h, const twin *request, uint32_t value)
+{
+    const uint8_t operation = twin_ours(request)[0];
+    seen.served[operation]++;
+    if (operation == 0 && was_walk(h, value))
+        seen.walks++;
+}
+
+bool calls_saw_all(void)
+{
+    bool all = seen.walks > 0;
+    for (int i = 0; i < NUMBERS; i++)
+        all = all && seen.numbers[i] > 0;
+    for (int i = 0; i < OPERATIONS; i++)
+        all = all && seen.served[i] > 0;
+    return all;
+}
+
+void calls_report(void)
+{
+    uint64_t calls = 0;
+    for (int i = 0; i < NUMBERS; i++) {
+        fprintf(stderr, "fuzz: answer %2d %-18s %12" PRIu64 "\n", i, poheldu_name((uint32_t)i), seen.numbers[i]);
+        calls += seen.numbers[i];
+    }
+    fprintf(stderr, "fuzz: served by operation:");
+    for (int i = 0; i < OPERATIONS; i++)
+        fprintf(stderr, " %" PRIu64, seen.served[i]);
+    fprintf(stderr, "; allocations by the walk: %" PRIu64 "\n", seen.walks);
+    fprintf(stderr, "fuzz: %" PRIu64 " calls, %" PRIu64 " of them requests\n", calls, seen.requests);
+}
+
+/* ---- the calls */
+
+poheldu_answer call_open(lent_heap h, uint32_t z, uint32_t w)
+{
+    const twin *const heap = h.heap, *const metadata = h.metadata;
+    const poheldu_answer ours = poheldu_open(twin_ours(heap), heap->len, twin_ours(metadata), metadata->len, z, w);
+    const poheldu_answer theirs = reference_open(twin_theirs(heap), heap->len, twin_theirs(metadata), metadata->len, z, w);
+    require_same(ours, theirs, "an opening", BUFFERS(heap, metadata));
+    seen.numbers[ours.number]++;
+    return ours;
+}
+
+poheldu_answer call_serve(lent_heap h, const twin *request, const twin *source)
+{
+    const twin *const heap = h.heap, *const metadata = h.metadata;
+    const poheldu_answer ours = poheldu_serve(twin_ours(heap), heap->len, twin_ours(metadata), metadata->len, twin_ours(request), request->len,
+                                              twin_ours(source), source->len);
+    const poheldu_answer theirs = reference_serve(twin_theirs(heap), heap->len, twin_theirs(metadata), metadata->len, twin_theirs(request),
+                                                  request->len, twin_theirs(source), source->len);
+    require_same(ours, theirs, "a request", BUFFERS(heap, metadata, request, source));
+    seen.numbers[ours.number]++;
+    seen.requests++;
+    if (ours.number == POHELDU_SERVED)
+        count_served(h, request, ours.value);
+    return ours;
+}
+
+void call_vote(const twin *blocks, size_t replicas, size_t block_len, const twin *output)
+{
+    const poheldu_verdict ours = poheldu_vote(twin_ours(blocks), blocks->len, replicas, block_len, twin_ours(output), output->len);
+    const poheldu_verdict theirs = reference_vote(twin_theirs(blocks), blocks->len, replicas, block_len, twin_theirs(output), output->len);
+    require_same_verdict(ours, theirs, BUFFERS(blocks, output));
+    seen.numbers[ours.number]++;
+}
+
+void call_metadata_length(size_t heap_len)
+{
+    const size_t ours = poheldu_metadata_length(heap_len), theirs = reference_metadata_length(heap_len);
+    if (ours == theirs)
+        return;
+    fprintf(stderr, "difference at the metadata's length for %zu: library %zu, second implementation %zu\n", heap_len, ours, theirs);
+    abort();
+}

@@ -1,0 +1,26 @@
+/*
+ * Calls made on the library and on the second implementation: the run ends (abort) where the answers or any byte of any buffer differ. What came
+ * is counted, so that a run that did not see everything can fail.
+ */
+#ifndef CALLS_H
+#define CALLS_H
+
+#include "poheldu.h"
+#include "twin.h"
+
+typedef struct {
+    twin *heap, *metadata;
+} lent_heap;
+
+poheldu_answer call_open(lent_heap h, uint32_t z, uint32_t w);
+poheldu_answer call_serve(lent_heap h, const twin *request, const twin *source);
+void call_vote(const twin *blocks, size_t replicas, size_t block_len, const twin *output);
+void call_metadata_length(size_t heap_len);
+
+/* Whether every refusal, every operation served and the walk have come. */
+bool calls_saw_all(void);
+
+/* Says on standard error what came, and how often. */
+void calls_report(void);
+
+#endif

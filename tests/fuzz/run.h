@@ -1,0 +1,58 @@
+/* A run of calls on one heap, and the parts that calls are made of. */
+#ifndef RUN_H
+#define RUN_H
+
+#include "calls.h"
+#include "choices.h"
+
+enum { ALLOCATE, FREE, REMAINING, COPY_BYTES, COPY_STRING, COPY_PADDED };
+
+enum {
+    CLASSES = 12,
+    LARGEST_SIZE = 16384,
+    LONGEST_REQUEST = 40,
+    LONGEST_SOURCE = LARGEST_SIZE + 256,
+    MOST_REPLICAS = 17,
+    LONGEST_BLOCK = 4097,
+    LONGEST_OUTPUT = LONGEST_BLOCK + 64,
+    REMEMBERED = 32,
+};
+
+typedef struct {
+    choices input;
+    size_t region; /* the length of a class's region */
+    lent_heap lent;
+    twin *request, *source, *blocks, *output;
+    uint32_t placed[REMEMBERED]; /* offsets that allocations gave, freed ones too */
+    size_t placements;
+} run;
+
+static inline uint32_t slot_size(uint32_t class)
+{
+    return 8u << class;
+}
+
+static inline uint32_t slots(const run *r, uint32_t class)
+{
+    return (uint32_t)r->region / slot_size(class);
+}
+
+/* Numbers whose products and sums pass 2^32 or 2^64. */
+size_t any_huge(choices *c);
+
+/* Metadata (metadata.c): opened with any seeds, made by no opening, or with one byte changed. */
+void open_any(run *r);
+void foreign_metadata(run *r);
+void damage_metadata(run *r);
+
+/* Opens, and sets those slots that the next draws test: chance hardly comes to a walk in the midst of a bitmap. The class of these slots. */
+uint32_t set_trap(run *r);
+
+/* Requests (requests.c): any; some allocations of one class's size. */
+void serve_any(run *r);
+void allocate_some(run *r, uint32_t class, uint32_t times);
+
+/* Votes (votes.c). */
+void vote_any(run *r);
+
+#endif

@@ -1,0 +1,81 @@
+//! The second implementation for C: the functions of include/poheldu.h, under
+//! names of their own, for the fuzzer to hold against the library's.
+
+use crate::reference::{self, Answer, Verdict};
+
+/// # Safety
+/// `bytes` is valid for `len` bytes, or `len` is 0.
+unsafe fn shared<'a>(bytes: *const u8, len: usize) -> &'a [u8] {
+    match len {
+        0 => &[],
+        _ => std::slice::from_raw_parts(bytes, len),
+    }
+}
+
+/// # Safety
+/// `bytes` is valid for `len` bytes that nobody else uses, or `len` is 0.
+unsafe fn unique<'a>(bytes: *mut u8, len: usize) -> &'a mut [u8] {
+    match len {
+        0 => &mut [],
+        _ => std::slice::from_raw_parts_mut(bytes, len),
+    }
+}
+
+/// # Safety
+/// As include/poheldu.h asks of `poheldu_open`.
+#[no_mangle]
+pub unsafe extern "C" fn reference_open(
+    heap: *const u8,
+    heap_len: usize,
+    metadata: *mut u8,
+    metadata_len: usize,
+    z: u32,
+    w: u32,
+) -> Answer {
+    reference::open(shared(heap, heap_len), unique(metadata, metadata_len), z, w)
+}
+
+/// # Safety
+/// As include/poheldu.h asks of `poheldu_serve`.
+#[no_mangle]
+pub unsafe extern "C" fn reference_serve(
+    heap: *mut u8,
+    heap_len: usize,
+    metadata: *mut u8,
+    metadata_len: usize,
+    request: *const u8,
+    request_len: usize,
+    source: *const u8,
+    source_len: usize,
+) -> Answer {
+    reference::serve(
+        unique(heap, heap_len),
+        unique(metadata, metadata_len),
+        shared(request, request_len),
+        shared(source, source_len),
+    )
+}
+
+/// # Safety
+/// As include/poheldu.h asks of `poheldu_vote`.
+#[no_mangle]
+pub unsafe extern "C" fn reference_vote(
+    blocks: *const u8,
+    blocks_len: usize,
+    replicas: usize,
+    block_len: usize,
+    output: *mut u8,
+    output_len: usize,
+) -> Verdict {
+    reference::vote(
+        shared(blocks, blocks_len),
+        replicas,
+        block_len,
+        unique(output, output_len),
+    )
+}
+
+#[no_mangle]
+pub extern "C" fn reference_metadata_length(heap_len: usize) -> usize {
+    reference::metadata_length(heap_len)
+}
