@@ -1,11 +1,17 @@
 # make run      builds assemble and benchrun, proved, and serves the eight requests of examples/eight.txt
 # make test     the gate: proofs, must-fail edits, programs, and the tests below tests/
-# make lib      target/staticlib/libcapi.a, for C programs with include/poheldu.h
+# make lib      target/libpoheldu.a, proved, for C programs with include/poheldu.h
+# make install  the header, the library and poheldu.pc below PREFIX (/usr/local), or below DESTDIR/PREFIX
+# make uninstall  removes these three again
 # make fuzz     any bytes through the C interface, for FUZZ_SECONDS (60); wants clang
 # make expected writes crates/conformance/stdout anew, by the second implementation
 # make bench    ratios against the second implementation, memcpy, memcmp and malloc
 # make instructions  how many instructions a request takes; wants valgrind
+# make clean    removes target/
+# make help     this list, as plain make does
 .PHONY: run test lib fuzz expected bench instructions
+.PHONY: install uninstall clean help
+.DEFAULT_GOAL := help
 
 FUZZ_SECONDS ?= 60
 
@@ -16,8 +22,37 @@ run:
 test:
 	.ci/run
 
-lib:
+# What the library is made of, and its proofs. Folders are listed with their files, so that a file taken away is a change.
+library_sources := crates.txt $(shell find crates -path 'crates/*/src*' -o -path 'crates/*/specs*' -o -path 'crates/*/proofs*')
+
+lib: target/libpoheldu.a
+
+target/libpoheldu.a: target/staticlib/libcapi.a
+	cp $< $@
+
+target/staticlib/libcapi.a: $(library_sources)
 	rt staticlib capi
+
+# poheldu.pc names an absolute folder, and the version that the header's macros say.
+PREFIX ?= /usr/local
+prefix = $(abspath $(PREFIX))
+version = $(shell sed -n 's/^.define POHELDU_VERSION_[A-Z]* \([0-9]\)/\1/p' include/poheldu.h | paste -sd .)
+
+install: lib
+	install -d "$(DESTDIR)$(prefix)/include" "$(DESTDIR)$(prefix)/lib/pkgconfig"
+	install -m 644 include/poheldu.h "$(DESTDIR)$(prefix)/include/poheldu.h"
+	install -m 644 target/libpoheldu.a "$(DESTDIR)$(prefix)/lib/libpoheldu.a"
+	sed 's|@PREFIX@|$(prefix)|; s|@VERSION@|$(version)|' include/poheldu.pc.in > target/poheldu.pc
+	install -m 644 target/poheldu.pc "$(DESTDIR)$(prefix)/lib/pkgconfig/poheldu.pc"
+
+uninstall:
+	rm -f "$(DESTDIR)$(prefix)/include/poheldu.h" "$(DESTDIR)$(prefix)/lib/libpoheldu.a" "$(DESTDIR)$(prefix)/lib/pkgconfig/poheldu.pc"
+
+clean:
+	rm -rf target
+
+help:
+	@sed -n 's/^# make/make/p' $(firstword $(MAKEFILE_LIST))
 
 fuzz: lib
 	@command -v clang > /dev/null || { echo "make fuzz: clang is not installed (Debian packages clang and libclang-rt-14-dev)"; exit 1; }
