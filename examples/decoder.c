@@ -1,7 +1,7 @@
 /*
- * Decodes a beacon's search log three times, each time on a heap of its own with seeds of its own, and passes on what two
- * copies agree on. The decoder has two faults, a name that does not fit its object and an object that is freed twice: on
- * this heap neither does harm.
+ * Decodes a beacon's search log three times, each time on a heap of its own with seeds of its own, and passes on what
+ * two copies agree on. The decoder has two faults, a name that does not fit its object and an object that is freed
+ * twice: on this heap neither does harm.
  */
 #include "poheldu.h"
 

@@ -177,7 +177,7 @@ typedef enum {
     POHELDU_ZERO_SEED = 1,         /* opening with z or w zero */
     POHELDU_HEAP_LENGTH = 2,       /* not 12 times a power of two from 1,024 to 1,048,576 */
     POHELDU_METADATA_LENGTH = 3,   /* not poheldu_metadata_length of the heap's length */
-    POHELDU_MALFORMED_REQUEST = 4, /* not 16 bytes, no such operation, or a byte set that must be 0 */
+    POHELDU_MALFORMED_REQUEST = 4, /* not 16 bytes, no such operation, or a spare byte that is not 0 */
     POHELDU_UNSUPPORTED_SIZE = 5,  /* 0 bytes, or more than 16,384 */
     POHELDU_CLASS_TOO_SMALL = 6,   /* the heap has fewer than two slots of that size */
     POHELDU_CLASS_AT_CAPACITY = 7, /* half the slots of that size, or more, are live */
@@ -321,14 +321,14 @@ POHELDU_NODISCARD static inline size_t poheldu_usable_size(const poheldu_heap *h
  * that object's end is written. The value is how many bytes were written: 0 where to points into no
  * live object. Refuses OUT_OF_RANGE.
  *
- * Overlap: safe. The source may lie in the heap, in another object or in the same, over what is
- * written: it is read before anything is written, as memmove does. For such a source the call takes
- * POHELDU_LARGEST_OBJECT (16,384) bytes of stack. A source within the metadata is the caller's
- * fault.
+ * "Overlap: safe" means that the source may lie in the heap, in another object or in the same, over
+ * what is written: it is read before anything is written, as memmove does. For such a source the
+ * call takes POHELDU_LARGEST_OBJECT (16,384) bytes of stack, for others none. A source that shares
+ * a byte with the metadata stays the caller's fault.
  */
 
 /*
- * Copies len bytes. from may be null where len is 0.
+ * Copies len bytes. from may be null where len is 0. Overlap: safe.
  *
  *     if (poheldu_memcpy(h, p, data, len).value < len)
  *         fprintf(stderr, "cut short\n");
@@ -340,7 +340,7 @@ static inline poheldu_answer poheldu_memcpy(const poheldu_heap *h, void *to, con
  * Copies a string with its closing zero. Where it is clipped, the object has no closing zero: the
  * value is then at most the string's length. Of from no byte is read after its first zero, nor
  * after POHELDU_LARGEST_OBJECT bytes, nor past the end of the heap if it lies in it: a clipped
- * string in the heap is read on through the next zero.
+ * string in the heap is read on through the next zero. Overlap: safe.
  *
  *     if (poheldu_strcpy(h, p, text).value <= strlen(text))
  *         fprintf(stderr, "cut short\n");
@@ -351,7 +351,7 @@ static inline poheldu_answer poheldu_strcpy(const poheldu_heap *h, void *to, con
  * Copies a string into a field of count bytes: from before its first zero, at most count bytes of
  * it, then zeros to the field's end. As with strncpy, a string of count bytes or more gets no
  * closing zero, and of from no byte is read after its first zero nor after count bytes. The other
- * bounds of poheldu_strcpy hold too. from may be null where count is 0.
+ * bounds of poheldu_strcpy hold too. from may be null where count is 0. Overlap: safe.
  *
  *     poheldu_strncpy(h, p, text, 16);
  */
@@ -509,8 +509,7 @@ static inline poheldu_answer poheldu_copy_(const poheldu_heap *h, uint32_t opera
 
 /*
  * Copies len bytes to an offset, and no further than the object's end. The value is how many bytes
- * were written; 0 where the offset lies in no live object. Refuses OUT_OF_RANGE. Overlap: safe, as
- * poheldu_memcpy is, and so are the next two.
+ * were written; 0 where the offset lies in no live object. Refuses OUT_OF_RANGE. Overlap: safe.
  *
  *     poheldu_copy_bytes(h, offset, data, len);
  */
@@ -522,7 +521,7 @@ static inline poheldu_answer poheldu_copy_bytes(const poheldu_heap *h, size_t of
 
 /*
  * The same of the source through its first zero byte, or to its end where it has none. A clipped
- * string has no closing zero.
+ * string has no closing zero. Overlap: safe.
  *
  *     poheldu_copy_string(h, offset, data, len);
  */
@@ -533,7 +532,8 @@ static inline poheldu_answer poheldu_copy_string(const poheldu_heap *h, size_t o
 }
 
 /*
- * The same of count bytes: the source before its first zero byte or end, and then zeros.
+ * The same of count bytes: the source before its first zero byte or end, and then zeros. Overlap:
+ * safe.
  *
  *     poheldu_copy_padded(h, offset, data, len, 16);
  */

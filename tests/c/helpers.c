@@ -1,6 +1,6 @@
 /*
- * The functions with plain arguments and the macros of include/poheldu.h. Prints each check that fails, and then exits 1.
- * Written for C11 and C++17 alike. Buffers are allocated at their exact length, for tools that watch what is read.
+ * The functions with plain arguments and the macros of include/poheldu.h. Prints each check that fails, and then
+ * exits 1. Written for C11 and C++17 alike. Buffers are allocated at their exact length, for tools that watch reads.
  */
 #include <assert.h>
 #include <stdint.h>
@@ -29,7 +29,7 @@ static void expect(int holds, const char *what, int line)
     checks++;
     if (holds)
         return;
-    printf("line %d: not so: %s\n", line, what);
+    printf("%s:%d: not so: %s\n", __FILE__, line, what);
     if (++failures == FAILURES_SHOWN)
         exit(1);
 }
@@ -231,7 +231,7 @@ static void copies_within_an_object(void)
     closed(h);
 }
 
-/* A source in the heap that is longer than any object, with its first zero before, at and after the longest one's end. */
+/* A source in the heap longer than any object, with its first zero before, at and after the longest one's end. */
 static void long_sources(void)
 {
     const poheldu_heap h = opened(65536);
@@ -272,6 +272,7 @@ static void sources_elsewhere(void)
     EXPECT(!poheldu_overlap_(h.heap + h.heap_len, 4, h.heap, h.heap_len));
     EXPECT(poheldu_overlap_(h.heap + h.heap_len - 1, 1, h.heap, h.heap_len));
     EXPECT(!poheldu_overlap_(h.heap, 0, h.heap, h.heap_len) && !poheldu_overlap_(h.heap, 1, h.heap, 0));
+    EXPECT(!poheldu_overlap_(before_start(h), 2, h.heap, 0));
     EXPECT(!poheldu_overlap_(NULL, 0, NULL, 0) && !poheldu_overlap_(NULL, 0, h.heap, h.heap_len));
     free(from);
     closed(h);

@@ -1,6 +1,6 @@
 /*
- * What include/poheldu.h says in words against the library: its table of how many objects a class takes, and the names of
- * its refusals. The first argument is the header's path. Prints what is wrong, and then exits 1.
+ * What include/poheldu.h says in words against the library: its table of how many objects a class takes, and the names
+ * of its refusals. The first argument is the header's path. Prints what is wrong, and then exits 1.
  */
 #include "poheldu.h"
 
@@ -34,19 +34,28 @@ static long number(const char **at)
     return n;
 }
 
-/* How many objects of these sizes in turn a heap with such regions takes, and what it answers to one more. */
-static long taken(size_t region, size_t least, size_t most, uint32_t *refusal)
+static poheldu_heap opened(size_t region)
 {
     const poheldu_heap h = {calloc(1, POHELDU_HEAP_BYTES(region)), POHELDU_HEAP_BYTES(region),
                             calloc(1, POHELDU_METADATA_BYTES(region)), POHELDU_METADATA_BYTES(region)};
-    if (poheldu_open(h.heap, h.heap_len, h.metadata, h.metadata_len, 7, 11).number != POHELDU_SERVED)
-        abort();
-    long count = 0;
+    const poheldu_answer a = poheldu_open(h.heap, h.heap_len, h.metadata, h.metadata_len, 7, 11);
+    if (h.heap == NULL || h.metadata == NULL || a.number != POHELDU_SERVED) {
+        printf("region of %zu bytes: %s\n", region, poheldu_name(a.number));
+        exit(1);
+    }
+    return h;
+}
+
+/* How many objects of these sizes in turn a class takes, and what it answers to one more; line: where that stands. */
+static size_t taken(size_t region, size_t least, size_t most, uint32_t *refusal, const char *line)
+{
+    const poheldu_heap h = opened(region);
+    size_t count = 0;
     poheldu_answer a = poheldu_allocate(&h, least);
     for (; a.number == POHELDU_SERVED; a = poheldu_allocate(&h, count % 2 == 0 ? least : most)) {
         count++;
-        if (poheldu_remaining(&h, a.value).value != most)
-            abort();
+        if (count <= 2 && poheldu_remaining(&h, a.value).value != most)
+            wrong("a size of another class", line);
     }
     *refusal = a.number;
     free(h.heap);
@@ -67,10 +76,10 @@ static void check_row(const char *line, unsigned row, const size_t regions[COLUM
         wrong("not the sizes of the class", line);
     last = most;
     for (int i = 0; i < COLUMNS; i++, cells++) {
-        const long cell = number(&at), expected = cell == NO_OBJECTS ? 0 : cell;
+        const long cell = number(&at);
         uint32_t refusal;
-        const long count = taken(regions[i], least, most, &refusal);
-        if (count != expected || (size_t)count != POHELDU_CAPACITY(regions[i], row))
+        const size_t count = taken(regions[i], least, most, &refusal, line);
+        if (count != (size_t)(cell == NO_OBJECTS ? 0 : cell) || count != POHELDU_CAPACITY(regions[i], row))
             wrong("another number of objects", line);
         if (refusal != (cell == NO_OBJECTS ? POHELDU_CLASS_TOO_SMALL : POHELDU_CLASS_AT_CAPACITY))
             wrong("another refusal after the last object", line);
