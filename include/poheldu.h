@@ -177,7 +177,7 @@ typedef enum {
     POHELDU_ZERO_SEED = 1,         /* opening with z or w zero */
     POHELDU_HEAP_LENGTH = 2,       /* not 12 times a power of two from 1,024 to 1,048,576 */
     POHELDU_METADATA_LENGTH = 3,   /* not poheldu_metadata_length of the heap's length */
-    POHELDU_MALFORMED_REQUEST = 4, /* not 16 bytes, no such operation, or a spare byte that is not 0 */
+    POHELDU_MALFORMED_REQUEST = 4, /* not 16 bytes, no such operation, a byte set that must be 0 */
     POHELDU_UNSUPPORTED_SIZE = 5,  /* 0 bytes, or more than 16,384 */
     POHELDU_CLASS_TOO_SMALL = 6,   /* the heap has fewer than two slots of that size */
     POHELDU_CLASS_AT_CAPACITY = 7, /* half the slots of that size, or more, are live */
