@@ -1,17 +1,11 @@
 # make run      builds assemble and benchrun, proved, and serves the eight requests of examples/eight.txt
 # make test     the gate: proofs, must-fail edits, programs, and the tests below tests/
 # make lib      target/libpoheldu.a, proved, for C programs with include/poheldu.h
-# make install  the header, the library and poheldu.pc below PREFIX (/usr/local), or below DESTDIR/PREFIX
-# make uninstall  removes these three again
 # make fuzz     any bytes through the C interface, for FUZZ_SECONDS (60); wants clang
 # make expected writes crates/conformance/stdout anew, by the second implementation
 # make bench    ratios against the second implementation, memcpy, memcmp and malloc
 # make instructions  how many instructions a request takes; wants valgrind
-# make clean    removes target/
-# make help     this list, as plain make does
 .PHONY: run test lib fuzz expected bench instructions
-.PHONY: install uninstall clean help
-.DEFAULT_GOAL := help
 
 FUZZ_SECONDS ?= 60
 
@@ -33,6 +27,30 @@ target/libpoheldu.a: target/staticlib/libcapi.a
 target/staticlib/libcapi.a: $(library_sources)
 	rt staticlib capi
 
+fuzz: lib
+	@command -v clang > /dev/null || { echo "make fuzz: clang is not installed (Debian packages clang and libclang-rt-14-dev)"; exit 1; }
+	clang -g -O1 -fsanitize=fuzzer -Iinclude tests/fuzz/fuzz.c target/staticlib/libcapi.a -o target/fuzz
+	target/fuzz -max_total_time=$(FUZZ_SECONDS) -max_len=2000 -print_final_stats=1
+
+expected: lib
+	cd tests && cargo build --release --offline --quiet
+	target/tests/release/conformance < crates/conformance/stdin > crates/conformance/stdout
+
+bench:
+	@mkdir -p target && { rt staticlib capi && rt check benchrun; } > target/bench.log 2>&1 || { tail -n 20 target/bench.log; exit 1; }
+	@cd tests && cargo build --release --offline --quiet
+	@target/tests/release/bench target/bin/benchrun
+
+instructions: lib
+	@tests/instructions
+
+# make install  the header, the library and poheldu.pc below PREFIX (/usr/local), or below DESTDIR/PREFIX
+# make uninstall  removes these three again
+# make clean    removes target/
+# make help     this list, as plain make does
+.PHONY: install uninstall clean help
+.DEFAULT_GOAL := help
+
 # poheldu.pc names an absolute folder, and the version that the header's macros say.
 PREFIX ?= /usr/local
 prefix = $(abspath $(PREFIX))
@@ -53,20 +71,3 @@ clean:
 
 help:
 	@sed -n 's/^# make/make/p' $(firstword $(MAKEFILE_LIST))
-
-fuzz: lib
-	@command -v clang > /dev/null || { echo "make fuzz: clang is not installed (Debian packages clang and libclang-rt-14-dev)"; exit 1; }
-	clang -g -O1 -fsanitize=fuzzer -Iinclude tests/fuzz/fuzz.c target/staticlib/libcapi.a -o target/fuzz
-	target/fuzz -max_total_time=$(FUZZ_SECONDS) -max_len=2000 -print_final_stats=1
-
-expected: lib
-	cd tests && cargo build --release --offline --quiet
-	target/tests/release/conformance < crates/conformance/stdin > crates/conformance/stdout
-
-bench:
-	@mkdir -p target && { rt staticlib capi && rt check benchrun; } > target/bench.log 2>&1 || { tail -n 20 target/bench.log; exit 1; }
-	@cd tests && cargo build --release --offline --quiet
-	@target/tests/release/bench target/bin/benchrun
-
-instructions: lib
-	@tests/instructions
