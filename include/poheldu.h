@@ -37,7 +37,9 @@
  *            outside them. Where it is refused, its number is above 0 and its value 0, and no byte
  *            of any buffer has changed. Checks are made in the order in which a function names
  *            them; the first that fails is the answer.
- * Buffers    A pointer and a length. They need no alignment.
+ * Buffers    A pointer and a length. They need no alignment. Where objects are to be more than
+ *            bytes, C asks for a heap without a declared type, as malloc gives; gcc and clang take
+ *            an array of uint8_t all the same.
  * Null       A pointer may be null where its length is 0; one to a poheldu_heap is never null.
  * Overlap    No two buffers of one call overlap where one of them is written. The copies with plain
  *            arguments (poheldu_memcpy to poheldu_copy_padded) take care of a source that lies in
