@@ -1,6 +1,6 @@
 # make run      builds assemble and benchrun, proved, and serves the eight requests of examples/eight.txt
 # make test     the gate: proofs, must-fail edits, programs, and the tests below tests/
-# make lib      target/staticlib/libcapi.a, for C programs with include/poheldu.h
+# make lib      target/libpoheldu.a, proved, for C programs with include/poheldu.h
 # make fuzz     runs of calls held against the second implementation, for FUZZ_SECONDS (60); wants clang
 # make soak     the differential test for SOAK_CALLS (100000000) calls, from a seed that it prints; SEED=N repeats one
 # make expected writes crates/conformance/stdout anew, by the second implementation
@@ -21,7 +21,15 @@ run:
 test:
 	.ci/run
 
-lib:
+# What the library is made of, and its proofs. Folders are listed with their files, so that a file taken away is a change.
+library_sources := crates.txt $(shell find crates -path 'crates/*/src*' -o -path 'crates/*/specs*' -o -path 'crates/*/proofs*')
+
+lib: target/libpoheldu.a
+
+target/libpoheldu.a: target/staticlib/libcapi.a
+	cp $< $@
+
+target/staticlib/libcapi.a: $(library_sources)
 	rt staticlib capi
 
 # The search is guided by what runs in the second implementation and the harness, which are built for that; the library is as it is.
@@ -51,3 +59,31 @@ bench:
 
 instructions: lib
 	@tests/instructions
+
+# make install  the header, the library and poheldu.pc below PREFIX (/usr/local), or below DESTDIR/PREFIX
+# make uninstall  removes these three again
+# make clean    removes target/
+# make help     this list, as plain make does
+.PHONY: install uninstall clean help
+.DEFAULT_GOAL := help
+
+# poheldu.pc names an absolute folder, and the version that the header's macros say.
+PREFIX ?= /usr/local
+prefix = $(abspath $(PREFIX))
+version = $(shell sed -n 's/^.define POHELDU_VERSION_[A-Z]* \([0-9]\)/\1/p' include/poheldu.h | paste -sd .)
+
+install: lib
+	install -d "$(DESTDIR)$(prefix)/include" "$(DESTDIR)$(prefix)/lib/pkgconfig"
+	install -m 644 include/poheldu.h "$(DESTDIR)$(prefix)/include/poheldu.h"
+	install -m 644 target/libpoheldu.a "$(DESTDIR)$(prefix)/lib/libpoheldu.a"
+	sed 's|@PREFIX@|$(prefix)|; s|@VERSION@|$(version)|' include/poheldu.pc.in > target/poheldu.pc
+	install -m 644 target/poheldu.pc "$(DESTDIR)$(prefix)/lib/pkgconfig/poheldu.pc"
+
+uninstall:
+	rm -f "$(DESTDIR)$(prefix)/include/poheldu.h" "$(DESTDIR)$(prefix)/lib/libpoheldu.a" "$(DESTDIR)$(prefix)/lib/pkgconfig/poheldu.pc"
+
+clean:
+	rm -rf target
+
+help:
+	@sed -n 's/^# make/make/p' $(firstword $(MAKEFILE_LIST))

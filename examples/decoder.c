@@ -1,6 +1,7 @@
 /*
- * Decodes a beacon's search log three times, each time on a heap of its own with seeds of its own, and passes on what two copies agree on.
- * The decoder has two faults, a name that does not fit its object and an object that is freed twice: on this heap neither does harm.
+ * Decodes a beacon's search log three times, each time on a heap of its own with seeds of its own, and passes on what
+ * two copies agree on. The decoder has two faults, a name that does not fit its object and an object that is freed
+ * twice: on this heap neither does harm.
  */
 #include "poheldu.h"
 
@@ -8,52 +9,91 @@
 #include <stdlib.h>
 #include <string.h>
 
-enum { REGION = 4096, HEAP = 12 * REGION, METADATA = 138, NAME = 16, COPIES = 3, OUTPUT = 256 };
+enum { REGION = 4096, LINE = 128, NAME = 16, COPIES = 3, OUTPUT = 256 };
 
 /* One signal of the log. */
 struct signal {
     struct signal *next;
-    unsigned minute, metres;
+    unsigned long minute, metres;
     char *name; /* NAME bytes, with a closing zero only where the name is shorter */
 };
 
-/* Reads "minute metres name" off a line into a new signal; null where the heap is full. */
-static struct signal *read_signal(const poheldu_heap *h, const char *line, size_t len, struct signal *next)
+/* What became of a log. */
+struct decoded {
+    struct signal *signals; /* the last one first */
+    unsigned count, unread; /* signals, and lines that are none or that the heap had no room for */
+};
+
+/* A new signal with a name of NAME bytes; null where the heap has no room for both. */
+static struct signal *new_signal(const poheldu_heap *h)
 {
     struct signal *s = poheldu_new(h, sizeof *s);
     char *name = poheldu_new(h, NAME);
-    if (s == NULL || name == NULL)
+    if (s == NULL || name == NULL) {
+        poheldu_delete(h, s); /* null is no object: nothing is done */
+        poheldu_delete(h, name);
         return NULL;
-    char *rest;
-    s->next = next;
-    s->minute = (unsigned)strtoul(line, &rest, 10);
-    s->metres = (unsigned)strtoul(rest, &rest, 10);
+    }
     s->name = name;
-    /* The name's length is not looked at: the copy stops at the end of the object. A shorter one is closed by a zero. */
-    const char *first = rest + strspn(rest, " ");
-    poheldu_copy_padded(h, poheldu_offset(h, name), first, len - (size_t)(first - line), NAME);
     return s;
 }
 
-/* Decodes a log of lines on a heap and writes a report of OUTPUT bytes. */
-static void decode(const poheldu_heap *h, const char *log, char report[OUTPUT])
+/* Reads "minute metres name" off a line; null where it does not say that, or the heap is full. */
+static struct signal *read_signal(const poheldu_heap *h, const char *line)
 {
-    struct signal *signals = NULL;
-    size_t count = 0, at = 0;
-    memset(report, 0, OUTPUT);
-    for (const char *line = log; *line != '\0';) {
-        const size_t len = strcspn(line, "\n");
-        struct signal *s = read_signal(h, line, len, signals);
-        if (s != NULL) {
-            signals = s;
-            count++;
+    char *metres_at, *name_at;
+    const unsigned long minute = strtoul(line, &metres_at, 10), metres = strtoul(metres_at, &name_at, 10);
+    const char *const name = name_at + strspn(name_at, " ");
+    if (metres_at == line || name_at == metres_at || *name == '\0')
+        return NULL;
+    struct signal *s = new_signal(h);
+    if (s == NULL)
+        return NULL;
+    s->minute = minute;
+    s->metres = metres;
+    /* NAME was meant: the copy ends with the object all the same. A shorter name is closed by a zero. */
+    poheldu_strncpy(h, s->name, name, LINE);
+    return s;
+}
+
+/* Copies the first line of a log, cut where it is too long, to a string of its own, and gives where the next begins. */
+static const char *take_line(const char *log, char line[LINE])
+{
+    const size_t len = strcspn(log, "\n");
+    snprintf(line, LINE, "%.*s", len < LINE ? (int)len : LINE - 1, log);
+    return log + len + (log[len] == '\n');
+}
+
+/* Decodes a log of lines on a heap; empty lines say nothing. */
+static struct decoded decode(const poheldu_heap *h, const char *log)
+{
+    struct decoded d = {NULL, 0, 0};
+    char line[LINE];
+    while (*log != '\0') {
+        log = take_line(log, line);
+        if (line[0] == '\0')
+            continue;
+        struct signal *s = read_signal(h, line);
+        if (s == NULL) {
+            d.unread++;
+            continue;
         }
-        line += len + (line[len] == '\n');
+        s->next = d.signals;
+        d.signals = s;
+        d.count++;
     }
-    at += (size_t)snprintf(report, OUTPUT, "%zu signals\n", count);
-    for (struct signal *s = signals, *next; s != NULL && at < OUTPUT; s = next) {
+    return d;
+}
+
+/* Writes what was decoded to a report of OUTPUT bytes, and frees it. */
+static void report_on(const poheldu_heap *h, struct decoded d, char report[OUTPUT])
+{
+    memset(report, 0, OUTPUT);
+    size_t at = (size_t)snprintf(report, OUTPUT, "%u signals, %u lines not read\n", d.count, d.unread);
+    for (struct signal *s = d.signals, *next; s != NULL && at < OUTPUT; s = next) {
         next = s->next;
-        at += (size_t)snprintf(report + at, OUTPUT - at, "minute %u, %u m: %.*s\n", s->minute, s->metres, NAME, s->name);
+        at += (size_t)snprintf(report + at, OUTPUT - at, "minute %lu, %lu m: %.*s\n", s->minute, s->metres, NAME,
+                               s->name);
         poheldu_delete(h, s->name);
         poheldu_delete(h, s->name); /* once too often: refused, and nothing changes */
         poheldu_delete(h, s);
@@ -63,19 +103,23 @@ static void decode(const poheldu_heap *h, const char *log, char report[OUTPUT])
 int main(void)
 {
     static const char log[] = "3 41 Anna\n"
+                              "5\n"
+                              "6 12\n"
+                              "\n"
                               "7 28 Bertrand of the very long name that no object here could hold\n"
                               "12 9 Cleo\n";
     static const uint32_t seeds[COPIES][2] = {{1, 1}, {5, 65535}, {2024, 1312}};
-    static _Alignas(16) uint8_t heaps[COPIES][HEAP];
-    static uint8_t metadata[COPIES][METADATA], reports[COPIES][OUTPUT], agreed[OUTPUT + 1];
+    static _Alignas(16) uint8_t heaps[COPIES][POHELDU_HEAP_BYTES(REGION)];
+    static uint8_t metadata[COPIES][POHELDU_METADATA_BYTES(REGION)], reports[COPIES][OUTPUT], agreed[OUTPUT + 1];
     for (int i = 0; i < COPIES; i++) {
-        const poheldu_heap h = {heaps[i], HEAP, metadata[i], METADATA};
-        const poheldu_answer opened = poheldu_open(h.heap, h.heap_len, h.metadata, h.metadata_len, seeds[i][0], seeds[i][1]);
+        const poheldu_heap h = {heaps[i], sizeof heaps[i], metadata[i], sizeof metadata[i]};
+        const poheldu_answer opened =
+            poheldu_open(h.heap, h.heap_len, h.metadata, h.metadata_len, seeds[i][0], seeds[i][1]);
         if (opened.number != POHELDU_SERVED) {
             fprintf(stderr, "copy %d: %s\n", i, poheldu_name(opened.number));
             return 1;
         }
-        decode(&h, log, (char *)reports[i]);
+        report_on(&h, decode(&h, log), (char *)reports[i]);
     }
     reports[1][0] = '9'; /* one copy goes wrong */
     const poheldu_verdict v = poheldu_vote(reports[0], sizeof reports, COPIES, OUTPUT, agreed, OUTPUT);

@@ -1,93 +1,286 @@
 /*
  * Poheldu: a heap for C programs in which every function is proved.
  *
- * The caller lends two buffers and keeps them: the heap, whose bytes the program's objects have, and its metadata, which only these
- * functions write. The library keeps no state and allocates nothing. Offsets count from the heap's first byte.
+ * Objects are placed at random in size classes, wrong frees are refused and do no harm, copies end
+ * where their object ends, and replicas vote on their output. The caller lends two buffers and
+ * keeps them: the heap, whose bytes the program's objects have, and its metadata, which only these
+ * functions write. The library has no state of its own and allocates nothing.
  *
- * Buffers: a pointer and a length. They need no alignment. A length of 0 may come with a null pointer. No two buffers of one call overlap
- * where one of them is written.
+ * A first program:
  *
- * Threads: calls on the same heap or metadata come one after another; calls on different ones may run at the same time.
+ *     #include <poheldu.h>
+ *     #include <stdio.h>
  *
- * Every call ends, reads and writes nothing outside its buffers, and answers for any bytes in them. A refused call gives a number above 0 and the
- * value 0, and changes no byte of any buffer.
+ *     static _Alignas(16) uint8_t heap[POHELDU_HEAP_BYTES(4096)];
+ *     static uint8_t metadata[POHELDU_METADATA_BYTES(4096)];
  *
- * Objects start at multiples of their slot's size from their region's start. An object is aligned to 8 bytes if the heap is, and to its slot's size
- * (a power of two, at least the size asked for) if the heap is aligned to that.
+ *     int main(void)
+ *     {
+ *         const poheldu_heap h = {heap, sizeof heap, metadata, sizeof metadata};
+ *         poheldu_answer a = poheldu_open(heap, sizeof heap, metadata, sizeof metadata, 7, 11);
+ *         char *name = poheldu_new(&h, 8);
+ *         if (a.number != POHELDU_SERVED || name == NULL)
+ *             return 1;
+ *         a = poheldu_strncpy(&h, name, "Bertrand of the long name", 32);
+ *         printf("%u bytes: %.8s\n", a.value, name);  // prints 8 bytes: Bertrand
+ *         poheldu_delete(&h, name);
+ *         a = poheldu_delete(&h, name);
+ *         printf("%s\n", poheldu_name(a.number));     // prints not allocated
+ *         return 0;
+ *     }
+ *
+ *     cc first.c $(pkg-config --cflags --libs poheldu) -o first
+ *
+ * What holds for every call; at a function stands only what differs:
+ *
+ * Answers    A call ends and answers for any bytes in its buffers, and reads and writes nothing
+ *            outside them. Where it is refused, its number is above 0 and its value 0, and no byte
+ *            of any buffer has changed. Checks are made in the order in which a function names
+ *            them; the first that fails is the answer.
+ * Buffers    A pointer and a length. They need no alignment. Where objects are to be more than
+ *            bytes, C asks for a heap without a declared type, as malloc gives; gcc and clang take
+ *            an array of uint8_t all the same.
+ * Null       A pointer may be null where its length is 0; one to a poheldu_heap is never null.
+ * Overlap    No two buffers of one call overlap where one of them is written. The copies with plain
+ *            arguments (poheldu_memcpy to poheldu_copy_padded) take care of a source that lies in
+ *            the heap; poheldu_serve leaves that to the caller.
+ * Threads    Calls on the same heap or metadata come one after another; calls on different ones may
+ *            run at the same time.
+ * Numbers    A size, offset or count that does not fit into 32 bits is answered as any other that
+ *            is too large. None is cut.
+ * Alignment  An object starts at a multiple of its slot's size from its region's start; the slot's
+ *            size is the power of two, 8 or more, that holds the size asked for. Objects are
+ *            aligned to 8 bytes if the heap is, and to their slot's size if the heap is aligned to
+ *            that.
  */
 #ifndef POHELDU_H
 #define POHELDU_H
 
 #include <stddef.h>
 #include <stdint.h>
+#include <string.h>
 
 #ifdef __cplusplus
 extern "C" {
 #endif
 
-/* number: 0 where the call was served, else a poheldu_refusal. value: what the call answers, 0 where it was refused. */
+#define POHELDU_VERSION_MAJOR 0
+#define POHELDU_VERSION_MINOR 1
+#define POHELDU_VERSION_PATCH 0
+#define POHELDU_VERSION                            \
+    POHELDU_QUOTED_(POHELDU_VERSION_MAJOR)         \
+    "." POHELDU_QUOTED_(POHELDU_VERSION_MINOR) "." \
+    POHELDU_QUOTED_(POHELDU_VERSION_PATCH)
+#define POHELDU_QUOTED_(macro) POHELDU_QUOTE_(macro)
+#define POHELDU_QUOTE_(text) #text
+
+/*
+ * An answer that it makes no sense to drop; and a function that is compiled by itself, so that its
+ * frame costs no caller.
+ */
+#if defined(__GNUC__)
+#define POHELDU_NODISCARD __attribute__((warn_unused_result))
+#define POHELDU_APART static __attribute__((noinline, unused))
+#else
+#define POHELDU_NODISCARD
+#define POHELDU_APART static inline
+#endif
+
+/* ---- Sizes
+ *
+ * A heap has twelve regions of one length, a power of two from 1,024 to 1,048,576. Each belongs to
+ * a size class: class 0 has slots of 8 bytes, each further class slots twice as long. An object
+ * takes a slot of the smallest class that holds it, and a class takes as many objects as half of
+ * its slots, rounded down:
+ *
+ *   objects in a region of  1,024   4,096  16,384  65,536  262,144  1,048,576
+ *        1 to      8 bytes     64     256   1,024   4,096   16,384     65,536
+ *        9 to     16 bytes     32     128     512   2,048    8,192     32,768
+ *       17 to     32 bytes     16      64     256   1,024    4,096     16,384
+ *       33 to     64 bytes      8      32     128     512    2,048      8,192
+ *       65 to    128 bytes      4      16      64     256    1,024      4,096
+ *      129 to    256 bytes      2       8      32     128      512      2,048
+ *      257 to    512 bytes      1       4      16      64      256      1,024
+ *      513 to  1,024 bytes      -       2       8      32      128        512
+ *    1,025 to  2,048 bytes      -       1       4      16       64        256
+ *    2,049 to  4,096 bytes      -       -       2       8       32        128
+ *    4,097 to  8,192 bytes      -       -       1       4       16         64
+ *    8,193 to 16,384 bytes      -       -       -       2        8         32
+ *
+ * An object more is refused with CLASS_AT_CAPACITY; where no number stands, the first with
+ * CLASS_TOO_SMALL.
+ *
+ * The macros are constant expressions (where their arguments are, which they may read more than
+ * once):
+ *
+ *     static uint8_t metadata[POHELDU_METADATA_BYTES(65536)];
+ */
+#define POHELDU_CLASSES 12
+#define POHELDU_SMALLEST_REGION 1024
+#define POHELDU_LARGEST_REGION 1048576
+
+/*
+ * The length of a heap with regions of this length, and of its metadata; 0 where no heap has such
+ * regions.
+ */
+#define POHELDU_HEAP_BYTES(region) \
+    (POHELDU_IS_REGION(region) ? POHELDU_CLASSES * (size_t)(region) : 0)
+#define POHELDU_METADATA_BYTES(region) \
+    (POHELDU_IS_REGION(region) ? POHELDU_FIELD_BYTES + POHELDU_BITMAPS_BYTES_(region) : 0)
+#define POHELDU_IS_REGION(region)                                                                 \
+    ((size_t)(region) >= POHELDU_SMALLEST_REGION && (size_t)(region) <= POHELDU_LARGEST_REGION && \
+     ((size_t)(region) & ((size_t)(region)-1)) == 0)
+
+/*
+ * A class, 0 to 11, in such a heap: the bytes of its slots, how many slots it has, and how many
+ * objects it takes.
+ */
+#define POHELDU_SLOT_BYTES(c) ((size_t)8 << (c))
+#define POHELDU_SLOTS(region, c) ((size_t)(region) / POHELDU_SLOT_BYTES(c))
+#define POHELDU_CAPACITY(region, c) (POHELDU_SLOTS(region, c) / 2)
+
+/* No object is longer: 16,384 bytes, a slot of the last class. */
+#define POHELDU_LARGEST_OBJECT POHELDU_SLOT_BYTES(POHELDU_CLASSES - 1)
+
+/*
+ * Metadata: the generator's two halves, z and w, then for each class a bit for each slot, eight to
+ * a byte, rounded up.
+ */
+#define POHELDU_FIELD_BYTES (2 * sizeof(uint32_t))
+#define POHELDU_BITMAP_BYTES(region, c) ((POHELDU_SLOTS(region, c) + 7) / 8)
+#define POHELDU_BITMAPS_BYTES_(region)                                   \
+    (POHELDU_BITMAP_BYTES(region, 0) + POHELDU_BITMAP_BYTES(region, 1) + \
+     POHELDU_BITMAP_BYTES(region, 2) + POHELDU_BITMAP_BYTES(region, 3) + \
+     POHELDU_BITMAP_BYTES(region, 4) + POHELDU_BITMAP_BYTES(region, 5) + \
+     POHELDU_BITMAP_BYTES(region, 6) + POHELDU_BITMAP_BYTES(region, 7) + \
+     POHELDU_BITMAP_BYTES(region, 8) + POHELDU_BITMAP_BYTES(region, 9) + \
+     POHELDU_BITMAP_BYTES(region, 10) + POHELDU_BITMAP_BYTES(region, 11))
+
+/* ---- Answers */
+
+/*
+ * number: 0 where the call was served, else a poheldu_refusal. value: what the call answers, 0
+ * where it was refused.
+ */
 typedef struct {
     uint32_t number, value;
 } poheldu_answer;
 
-/* number as above; mask: bit r for each winning replica r; value: how many they are; replica: one of them. All 0 but the number on refusal. */
+/*
+ * number as above; mask: bit r for each winning replica r; value: how many they are; replica: one
+ * of them. All 0 but the number on refusal.
+ */
 typedef struct {
     uint32_t number, mask, value, replica;
 } poheldu_verdict;
 
 typedef enum {
     POHELDU_SERVED = 0,
-    POHELDU_ZERO_SEED = 1,          /* opening with z or w zero */
-    POHELDU_HEAP_LENGTH = 2,        /* not 12 times a power of two from 1,024 to 1,048,576 */
-    POHELDU_METADATA_LENGTH = 3,    /* not poheldu_metadata_length of the heap's length */
-    POHELDU_MALFORMED_REQUEST = 4,  /* not 16 bytes, no such operation, or a byte set that must be zero */
-    POHELDU_UNSUPPORTED_SIZE = 5,   /* 0 bytes, or more than 16,384 */
-    POHELDU_CLASS_TOO_SMALL = 6,    /* the heap has fewer than two slots of that size */
-    POHELDU_CLASS_AT_CAPACITY = 7,  /* half the slots of that size, or more, are live */
-    POHELDU_OUT_OF_RANGE = 8,       /* an offset at or past the heap's end */
-    POHELDU_NOT_A_SLOT_START = 9,   /* a free where no slot starts */
-    POHELDU_NOT_ALLOCATED = 10,     /* a free of what is not live */
-    POHELDU_INVALID_VOTE = 11,      /* replicas not 3 to 16, block not 1 to 4,096 bytes, or a buffer of the wrong length */
-    POHELDU_NO_AGREEMENT = 12       /* no two blocks are equal */
+    POHELDU_ZERO_SEED = 1,         /* opening with z or w zero */
+    POHELDU_HEAP_LENGTH = 2,       /* not 12 times a power of two from 1,024 to 1,048,576 */
+    POHELDU_METADATA_LENGTH = 3,   /* not poheldu_metadata_length of the heap's length */
+    POHELDU_MALFORMED_REQUEST = 4, /* not 16 bytes, no such operation, a byte set that must be 0 */
+    POHELDU_UNSUPPORTED_SIZE = 5,  /* 0 bytes, or more than 16,384 */
+    POHELDU_CLASS_TOO_SMALL = 6,   /* the heap has fewer than two slots of that size */
+    POHELDU_CLASS_AT_CAPACITY = 7, /* half the slots of that size, or more, are live */
+    POHELDU_OUT_OF_RANGE = 8,      /* a pointer outside the heap, an offset at or past its end */
+    POHELDU_NOT_A_SLOT_START = 9,  /* a free where no slot starts */
+    POHELDU_NOT_ALLOCATED = 10,    /* a free of what is not live */
+    POHELDU_INVALID_VOTE = 11,     /* a number of replicas or a length that is not allowed */
+    POHELDU_NO_AGREEMENT = 12      /* no two blocks are equal */
 } poheldu_refusal;
 
 /*
- * Opens a heap: writes fresh metadata and leaves the heap alone. Value 0. Checks HEAP_LENGTH, METADATA_LENGTH, ZERO_SEED, in this order.
+ * The name of a number in words, "not allocated"; "unknown" where there is none. From any thread,
+ * at any time.
+ *
+ *     fprintf(stderr, "heap: %s\n", poheldu_name(a.number));
+ */
+static inline const char *poheldu_name(uint32_t number)
+{
+    static const char *const names[] = {
+        "served",           "zero seed",         "heap length",
+        "metadata length",  "malformed request", "unsupported size",
+        "class too small",  "class at capacity", "out of range",
+        "not a slot start", "not allocated",     "invalid vote",
+        "no agreement",
+    };
+    return number < sizeof names / sizeof *names ? names[number] : "unknown";
+}
+
+/* ---- The library */
+
+/*
+ * Opens a heap: writes fresh metadata, in which nothing is allocated, and leaves the heap alone.
+ * Value 0. Refuses HEAP_LENGTH, METADATA_LENGTH, ZERO_SEED.
  *
  * heap, heap_len          the heap; only its length matters
  * metadata, metadata_len  written; as long as poheldu_metadata_length(heap_len)
- * z, w                    seeds, neither of them 0: the same seeds place the same requests in the same slots
+ * z, w                    seeds, neither of them 0: the same seeds place the same requests in the
+ *                         same slots, so take new ones for each run
+ *
+ *     poheldu_answer a = poheldu_open(heap, sizeof heap, metadata, sizeof metadata, z, w);
+ *     if (a.number != POHELDU_SERVED)
+ *         abort();
  */
-poheldu_answer poheldu_open(const uint8_t *heap, size_t heap_len, uint8_t *metadata, size_t metadata_len, uint32_t z, uint32_t w);
+POHELDU_NODISCARD poheldu_answer poheldu_open(const uint8_t *heap, size_t heap_len,
+                                              uint8_t *metadata, size_t metadata_len, uint32_t z,
+                                              uint32_t w);
 
 /*
- * Serves a request, of which poheldu_pack makes the bytes. Checks HEAP_LENGTH, METADATA_LENGTH, MALFORMED_REQUEST, then what the request's operation checks.
+ * Serves a request, of which poheldu_pack makes the bytes: for programs that have requests as
+ * bytes. The functions with plain arguments below make and serve one each, and say what it does and
+ * answers. Refuses HEAP_LENGTH, METADATA_LENGTH, MALFORMED_REQUEST, then what the request's
+ * operation refuses.
  *
  * heap, heap_len          read by none, written by copies
  * metadata, metadata_len  read by all, written by allocate and free
  * request, request_len    16 bytes
  * source, source_len      what a copy reads; else not looked at
  *
- * The small functions below say what each operation does and answers.
+ * Overlap: here the caller sees to it that the source of a copy shares no byte with the heap.
+ *
+ *     uint8_t request[POHELDU_REQUEST_BYTES];
+ *     poheldu_pack(request, POHELDU_FREE, 640, 0);
+ *     poheldu_answer a = poheldu_serve(heap, sizeof heap, metadata, sizeof metadata,
+ *                                      request, sizeof request, NULL, 0);
  */
 poheldu_answer poheldu_serve(uint8_t *heap, size_t heap_len, uint8_t *metadata, size_t metadata_len,
-                             const uint8_t *request, size_t request_len, const uint8_t *source, size_t source_len);
+                             const uint8_t *request, size_t request_len, const uint8_t *source,
+                             size_t source_len);
 
 /*
- * A vote of replicas on a block of output: the content that most replicas share wins, if two or more share it; at equal numbers that of the lowest-numbered
- * replica among those tied. Checks INVALID_VOTE, NO_AGREEMENT.
+ * A vote of replicas on a block of output: the content that most replicas share wins, if two or
+ * more share it; at equal numbers that of the lowest-numbered replica among those tied. Refuses
+ * INVALID_VOTE, NO_AGREEMENT.
  *
- * blocks, blocks_len   the replicas' blocks, one after another: replicas times block_len bytes
- * replicas             3 to 16
- * block_len            1 to 4,096
- * output, output_len   at least block_len bytes; the winning block goes to its front, further bytes are kept
+ * blocks, blocks_len  the replicas' blocks, one after another: replicas times block_len bytes
+ * replicas            3 to 16
+ * block_len           1 to 4,096
+ * output, output_len  at least block_len bytes; the winning block goes to its front, further bytes
+ *                     are kept
+ *
+ *     static uint8_t reports[3][256], agreed[256];
+ *     poheldu_verdict v = poheldu_vote(reports[0], sizeof reports, 3, 256, agreed, sizeof agreed);
  */
-poheldu_verdict poheldu_vote(const uint8_t *blocks, size_t blocks_len, size_t replicas, size_t block_len, uint8_t *output, size_t output_len);
+POHELDU_NODISCARD poheldu_verdict poheldu_vote(const uint8_t *blocks, size_t blocks_len,
+                                               size_t replicas, size_t block_len, uint8_t *output,
+                                               size_t output_len);
 
-/* The length of the metadata of a heap of heap_len bytes; 0 where no heap has that length. */
-size_t poheldu_metadata_length(size_t heap_len);
+/*
+ * The length of the metadata of a heap of heap_len bytes; 0 where no heap has that length. Where
+ * the length is a constant, POHELDU_METADATA_BYTES is the same. From any thread, at any time.
+ *
+ *     uint8_t *metadata = (uint8_t *)malloc(poheldu_metadata_length(heap_len));
+ */
+POHELDU_NODISCARD size_t poheldu_metadata_length(size_t heap_len);
 
-/* ---- requests with plain arguments */
+/* ---- Objects, by pointer
+ *
+ * Each is one request with plain arguments and, beside what it names, refuses HEAP_LENGTH and
+ * METADATA_LENGTH first. POHELDU_OUT_OF_RANGE stands for every pointer that does not lead into the
+ * heap, null among them.
+ */
 
 /* The buffers of one heap, lent to each call. */
 typedef struct {
@@ -97,92 +290,313 @@ typedef struct {
     size_t metadata_len;
 } poheldu_heap;
 
-/* The 16 bytes of a request: the operation, its size or offset, its count (operation 5 alone), and zero, each as four bytes, lowest first. */
-static inline void poheldu_pack(uint8_t request[16], uint32_t operation, uint32_t argument, uint32_t count)
-{
-    const uint32_t words[4] = {operation, argument, count, 0};
-    for (int i = 0; i < 16; i++)
-        request[i] = (uint8_t)(words[i / 4] >> (i % 4 * 8));
-}
+/*
+ * A new object of size bytes, or null where poheldu_allocate, which says why, is refused. Its bytes
+ * are what the heap held.
+ *
+ *     struct signal *s = (struct signal *)poheldu_new(h, sizeof *s);
+ *     if (s == NULL)
+ *         return;
+ */
+POHELDU_NODISCARD static inline void *poheldu_new(const poheldu_heap *h, size_t size);
 
-static inline poheldu_answer poheldu_request(const poheldu_heap *h, uint32_t operation, uint32_t argument, uint32_t count, const void *source,
-                                             size_t source_len)
-{
-    uint8_t request[16];
-    poheldu_pack(request, operation, argument, count);
-    return poheldu_serve(h->heap, h->heap_len, h->metadata, h->metadata_len, request, sizeof request, (const uint8_t *)source, source_len);
-}
+/*
+ * Frees the object that starts at p. The value is its slot's size. Refuses OUT_OF_RANGE,
+ * NOT_A_SLOT_START, NOT_ALLOCATED, and then does no harm. Null is no object: nothing is done, and
+ * that is served with value 0.
+ *
+ *     poheldu_delete(h, p);
+ */
+static inline poheldu_answer poheldu_delete(const poheldu_heap *h, const void *p);
 
-/* Takes a slot for size bytes. The value is its offset. UNSUPPORTED_SIZE, CLASS_TOO_SMALL, CLASS_AT_CAPACITY. */
-static inline poheldu_answer poheldu_allocate(const poheldu_heap *h, uint32_t size)
-{
-    return poheldu_request(h, 0, size, 0, NULL, 0);
-}
+/*
+ * The number of bytes from p to the end of the live object that p points into, which may be more
+ * than were asked for; 0 where p points into none, outside the heap or is null.
+ *
+ *     if (poheldu_usable_size(h, p) < 100)
+ *         return;
+ */
+POHELDU_NODISCARD static inline size_t poheldu_usable_size(const poheldu_heap *h, const void *p);
 
-/* Frees the object that starts at an offset. The value is its slot's size. OUT_OF_RANGE, NOT_A_SLOT_START, NOT_ALLOCATED. */
-static inline poheldu_answer poheldu_free(const poheldu_heap *h, uint32_t offset)
-{
-    return poheldu_request(h, 1, offset, 0, NULL, 0);
-}
+/*
+ * The three copies: to is a pointer into an object, at its start or further on, and no byte past
+ * that object's end is written. The value is how many bytes were written: 0 where to points into no
+ * live object. Refuses OUT_OF_RANGE.
+ *
+ * "Overlap: safe" means that the source may lie in the heap, in another object or in the same, over
+ * what is written: it is read before anything is written, as memmove does. For such a source the
+ * call takes POHELDU_LARGEST_OBJECT (16,384) bytes of stack, for others none. A source that shares
+ * a byte with the metadata stays the caller's fault.
+ */
 
-/* The value is the number of bytes from an offset to the end of the live object that it lies in; 0 where it lies in none. OUT_OF_RANGE. */
-static inline poheldu_answer poheldu_remaining(const poheldu_heap *h, uint32_t offset)
-{
-    return poheldu_request(h, 2, offset, 0, NULL, 0);
-}
+/*
+ * Copies len bytes. from may be null where len is 0. Overlap: safe.
+ *
+ *     if (poheldu_memcpy(h, p, data, len).value < len)
+ *         fprintf(stderr, "cut short\n");
+ */
+static inline poheldu_answer poheldu_memcpy(const poheldu_heap *h, void *to, const void *from,
+                                            size_t len);
 
-/* Copies len bytes to an offset, and no further than the object's end. The value is how many bytes were written. OUT_OF_RANGE. */
-static inline poheldu_answer poheldu_copy_bytes(const poheldu_heap *h, uint32_t offset, const void *source, size_t len)
-{
-    return poheldu_request(h, 3, offset, 0, source, len);
-}
+/*
+ * Copies a string with its closing zero. Where it is clipped, the object has no closing zero: the
+ * value is then at most the string's length. Of from no byte is read after its first zero, nor
+ * after POHELDU_LARGEST_OBJECT bytes, nor past the end of the heap if it lies in it: a clipped
+ * string in the heap is read on through the next zero. Overlap: safe.
+ *
+ *     if (poheldu_strcpy(h, p, text).value <= strlen(text))
+ *         fprintf(stderr, "cut short\n");
+ */
+static inline poheldu_answer poheldu_strcpy(const poheldu_heap *h, void *to, const char *from);
 
-/* The same of the source through its first zero byte, or to its end where it has none. A clipped string has no closing zero. */
-static inline poheldu_answer poheldu_copy_string(const poheldu_heap *h, uint32_t offset, const void *source, size_t len)
-{
-    return poheldu_request(h, 4, offset, 0, source, len);
-}
+/*
+ * Copies a string into a field of count bytes: from before its first zero, at most count bytes of
+ * it, then zeros to the field's end. As with strncpy, a string of count bytes or more gets no
+ * closing zero, and of from no byte is read after its first zero nor after count bytes. The other
+ * bounds of poheldu_strcpy hold too. from may be null where count is 0. Overlap: safe.
+ *
+ *     poheldu_strncpy(h, p, text, 16);
+ */
+static inline poheldu_answer poheldu_strncpy(const poheldu_heap *h, void *to, const char *from,
+                                             size_t count);
 
-/* The same of count bytes: the source before its first zero byte or end, and then zeros. */
-static inline poheldu_answer poheldu_copy_padded(const poheldu_heap *h, uint32_t offset, const void *source, size_t len, uint32_t count)
-{
-    return poheldu_request(h, 5, offset, count, source, len);
-}
+/* ---- Objects, by offset
+ *
+ * The same for programs that keep offsets, which count from the heap's first byte. Every function
+ * that takes an offset refuses OUT_OF_RANGE for one that is not below the heap's length.
+ */
 
-/* Where an offset lies in the caller's heap; null where it lies outside. */
-static inline void *poheldu_at(const poheldu_heap *h, uint32_t offset)
+/*
+ * Where an offset lies in the caller's heap; null where it lies outside.
+ *
+ *     char *name = (char *)poheldu_at(h, offset);
+ */
+static inline void *poheldu_at(const poheldu_heap *h, size_t offset)
 {
     return offset < h->heap_len ? h->heap + offset : NULL;
 }
 
-/* The offset of a pointer into the caller's heap; UINT32_MAX, which every operation refuses, where it points elsewhere. */
+/* A number as a request has it: one that does not fit into 32 bits is the largest that does. */
+static inline uint32_t poheldu_word_(size_t number)
+{
+    return number < UINT32_MAX ? (uint32_t)number : UINT32_MAX;
+}
+
+/*
+ * The offset of a pointer into the caller's heap; UINT32_MAX, which is out of range, where it
+ * points elsewhere or is null.
+ *
+ *     uint32_t offset = poheldu_offset(h, p);
+ */
 static inline uint32_t poheldu_offset(const poheldu_heap *h, const void *p)
 {
     const uintptr_t at = (uintptr_t)p, start = (uintptr_t)h->heap;
-    return at >= start && at - start < h->heap_len ? (uint32_t)(at - start) : UINT32_MAX;
+    return at >= start && at - start < h->heap_len ? poheldu_word_(at - start) : UINT32_MAX;
 }
 
-/* A new object of size bytes, or null where the heap refuses it. */
-static inline void *poheldu_new(const poheldu_heap *h, uint32_t size)
+/* What a request asks for. */
+typedef enum {
+    POHELDU_ALLOCATE = 0,
+    POHELDU_FREE = 1,
+    POHELDU_REMAINING = 2,
+    POHELDU_COPY_BYTES = 3,
+    POHELDU_COPY_STRING = 4,
+    POHELDU_COPY_PADDED = 5
+} poheldu_operation;
+
+#define POHELDU_REQUEST_BYTES 16
+
+/*
+ * The bytes of a request: the operation, its size or offset, its count (POHELDU_COPY_PADDED alone,
+ * else 0), and 0, each as four bytes, lowest first.
+ *
+ *     uint8_t request[POHELDU_REQUEST_BYTES];
+ *     poheldu_pack(request, POHELDU_ALLOCATE, 100, 0);
+ */
+static inline void poheldu_pack(uint8_t request[POHELDU_REQUEST_BYTES], uint32_t operation,
+                                uint32_t argument, uint32_t count)
+{
+    const uint32_t words[4] = {operation, argument, count, 0};
+    for (int i = 0; i < POHELDU_REQUEST_BYTES; i++)
+        request[i] = (uint8_t)(words[i / 4] >> (i % 4 * 8));
+}
+
+/*
+ * Packs a request and serves it. Overlap: the caller sees to it, as for poheldu_serve.
+ *
+ *     poheldu_answer a = poheldu_request(h, POHELDU_COPY_BYTES, 640, 0, "abc", 3);
+ */
+static inline poheldu_answer poheldu_request(const poheldu_heap *h, uint32_t operation,
+                                             uint32_t argument, uint32_t count, const void *source,
+                                             size_t source_len)
+{
+    uint8_t request[POHELDU_REQUEST_BYTES];
+    poheldu_pack(request, operation, argument, count);
+    return poheldu_serve(h->heap, h->heap_len, h->metadata, h->metadata_len, request,
+                         sizeof request, (const uint8_t *)source, source_len);
+}
+
+/*
+ * Takes a slot for size bytes. The value is its offset. Refuses UNSUPPORTED_SIZE, CLASS_TOO_SMALL,
+ * CLASS_AT_CAPACITY.
+ *
+ *     poheldu_answer a = poheldu_allocate(h, 100);
+ *     if (a.number == POHELDU_CLASS_AT_CAPACITY)
+ *         fprintf(stderr, "no room for 100 bytes\n");
+ */
+POHELDU_NODISCARD static inline poheldu_answer poheldu_allocate(const poheldu_heap *h, size_t size)
+{
+    return poheldu_request(h, POHELDU_ALLOCATE, poheldu_word_(size), 0, NULL, 0);
+}
+
+/*
+ * Frees the object that starts at an offset. The value is its slot's size. Refuses OUT_OF_RANGE,
+ * NOT_A_SLOT_START, NOT_ALLOCATED.
+ *
+ *     poheldu_free(h, offset);
+ */
+static inline poheldu_answer poheldu_free(const poheldu_heap *h, size_t offset)
+{
+    return poheldu_request(h, POHELDU_FREE, poheldu_word_(offset), 0, NULL, 0);
+}
+
+/*
+ * The value is the number of bytes from an offset to the end of the live object that it lies in; 0
+ * where it lies in none. Refuses OUT_OF_RANGE.
+ *
+ *     poheldu_answer a = poheldu_remaining(h, offset);
+ */
+POHELDU_NODISCARD static inline poheldu_answer poheldu_remaining(const poheldu_heap *h,
+                                                                 size_t offset)
+{
+    return poheldu_request(h, POHELDU_REMAINING, poheldu_word_(offset), 0, NULL, 0);
+}
+
+/* Whether two buffers share a byte. */
+static inline int poheldu_overlap_(const void *a, size_t a_len, const void *b, size_t b_len)
+{
+    const uintptr_t p = (uintptr_t)a, q = (uintptr_t)b;
+    return p < q ? q - p < a_len && b_len > 0 : p - q < b_len && a_len > 0;
+}
+
+/*
+ * A copy from a source that shares bytes with the heap, by way of a buffer that shares none. The
+ * buffer takes the source's first 16,384 bytes, and that makes no difference. The checks do not
+ * look at the source. What is written is the front of the copy's content, as far as the object
+ * goes: at most 16,384 bytes. Byte i of the content depends on the source's bytes 0 to i alone (it
+ * is byte i, or 0 from the first zero on in a padded copy), so the first 16,384 are the same. And a
+ * content that ends sooner because the source does still has 16,384 bytes; no object takes more.
+ */
+POHELDU_APART poheldu_answer poheldu_copy_staged_(const poheldu_heap *h, uint32_t operation,
+                                                  size_t offset, size_t count, const void *source,
+                                                  size_t len)
+{
+    uint8_t stage[POHELDU_LARGEST_OBJECT];
+    const size_t staged = len < sizeof stage ? len : sizeof stage;
+    memcpy(stage, source, staged);
+    return poheldu_request(h, operation, poheldu_word_(offset), poheldu_word_(count), stage,
+                           staged);
+}
+
+/*
+ * A copy from any source but the metadata; one that shares no byte with the heap is lent as it is.
+ */
+static inline poheldu_answer poheldu_copy_(const poheldu_heap *h, uint32_t operation, size_t offset,
+                                           size_t count, const void *source, size_t len)
+{
+    if (poheldu_overlap_(source, len, h->heap, h->heap_len))
+        return poheldu_copy_staged_(h, operation, offset, count, source, len);
+    return poheldu_request(h, operation, poheldu_word_(offset), poheldu_word_(count), source, len);
+}
+
+/*
+ * Copies len bytes to an offset, and no further than the object's end. The value is how many bytes
+ * were written; 0 where the offset lies in no live object. Refuses OUT_OF_RANGE. Overlap: safe.
+ *
+ *     poheldu_copy_bytes(h, offset, data, len);
+ */
+static inline poheldu_answer poheldu_copy_bytes(const poheldu_heap *h, size_t offset,
+                                                const void *source, size_t len)
+{
+    return poheldu_copy_(h, POHELDU_COPY_BYTES, offset, 0, source, len);
+}
+
+/*
+ * The same of the source through its first zero byte, or to its end where it has none. A clipped
+ * string has no closing zero. Overlap: safe.
+ *
+ *     poheldu_copy_string(h, offset, data, len);
+ */
+static inline poheldu_answer poheldu_copy_string(const poheldu_heap *h, size_t offset,
+                                                 const void *source, size_t len)
+{
+    return poheldu_copy_(h, POHELDU_COPY_STRING, offset, 0, source, len);
+}
+
+/*
+ * The same of count bytes: the source before its first zero byte or end, and then zeros. Overlap:
+ * safe.
+ *
+ *     poheldu_copy_padded(h, offset, data, len, 16);
+ */
+static inline poheldu_answer poheldu_copy_padded(const poheldu_heap *h, size_t offset,
+                                                 const void *source, size_t len, size_t count)
+{
+    return poheldu_copy_(h, POHELDU_COPY_PADDED, offset, count, source, len);
+}
+
+/* ---- What the functions by pointer do */
+
+static inline void *poheldu_new(const poheldu_heap *h, size_t size)
 {
     const poheldu_answer a = poheldu_allocate(h, size);
     return a.number == POHELDU_SERVED ? poheldu_at(h, a.value) : NULL;
 }
 
-/* Frees an object by its pointer; a pointer that is no live object's start is refused, and does no harm. */
 static inline poheldu_answer poheldu_delete(const poheldu_heap *h, const void *p)
 {
-    return poheldu_free(h, poheldu_offset(h, p));
+    const poheldu_answer nothing = {POHELDU_SERVED, 0};
+    return p == NULL ? nothing : poheldu_free(h, poheldu_offset(h, p));
 }
 
-/* The name of a refusal's number. */
-static inline const char *poheldu_name(uint32_t number)
+static inline size_t poheldu_usable_size(const poheldu_heap *h, const void *p)
 {
-    static const char *const names[] = {
-        "served",           "zero seed",         "heap length",  "metadata length",  "malformed request", "unsupported size", "class too small",
-        "class at capacity", "out of range", "not a slot start", "not allocated",     "invalid vote",      "no agreement",
-    };
-    return number < sizeof names / sizeof *names ? names[number] : "unknown";
+    return poheldu_remaining(h, poheldu_offset(h, p)).value;
+}
+
+static inline poheldu_answer poheldu_memcpy(const poheldu_heap *h, void *to, const void *from,
+                                            size_t len)
+{
+    return poheldu_copy_bytes(h, poheldu_offset(h, to), from, len);
+}
+
+/*
+ * How many bytes of a text a copy is lent: through its first zero, at most so many, and not past
+ * the heap that it lies in.
+ */
+static inline size_t poheldu_text_(const poheldu_heap *h, const char *text, size_t most)
+{
+    const size_t offset = poheldu_offset(h, text);
+    if (offset < h->heap_len && most > h->heap_len - offset)
+        most = h->heap_len - offset;
+    size_t len = 0;
+    while (len < most && text[len] != '\0')
+        len++;
+    return len < most ? len + 1 : most;
+}
+
+/* No copy writes more than the longest object, so no more is read. */
+static inline poheldu_answer poheldu_strcpy(const poheldu_heap *h, void *to, const char *from)
+{
+    return poheldu_copy_string(h, poheldu_offset(h, to), from,
+                               poheldu_text_(h, from, POHELDU_LARGEST_OBJECT));
+}
+
+static inline poheldu_answer poheldu_strncpy(const poheldu_heap *h, void *to, const char *from,
+                                             size_t count)
+{
+    const size_t most = count < POHELDU_LARGEST_OBJECT ? count : POHELDU_LARGEST_OBJECT;
+    return poheldu_copy_padded(h, poheldu_offset(h, to), from, poheldu_text_(h, from, most), count);
 }
 
 #ifdef __cplusplus

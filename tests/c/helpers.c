@@ -1,0 +1,440 @@
+/*
+ * The functions with plain arguments and the macros of include/poheldu.h. Prints each check that fails, and then
+ * exits 1. Written for C11 and C++17 alike. Buffers are allocated at their exact length, for tools that watch reads.
+ */
+#include <assert.h>
+#include <stdint.h>
+#include <stdio.h>
+#include <stdlib.h>
+#include <string.h>
+
+/* The header's functions call watched_serve, which looks at what they lend and passes it on. */
+#define poheldu_serve watched_serve
+#include "poheldu.h"
+#undef poheldu_serve
+
+#ifdef __cplusplus
+extern "C"
+#endif
+    poheldu_answer
+    poheldu_serve(uint8_t *heap, size_t heap_len, uint8_t *metadata, size_t metadata_len, const uint8_t *request,
+                  size_t request_len, const uint8_t *source, size_t source_len);
+
+enum { FAILURES_SHOWN = 20 };
+
+static unsigned long checks, failures;
+
+static void expect(int holds, const char *what, int line)
+{
+    checks++;
+    if (holds)
+        return;
+    printf("%s:%d: not so: %s\n", __FILE__, line, what);
+    if (++failures == FAILURES_SHOWN)
+        exit(1);
+}
+
+#define EXPECT(condition) expect((condition) ? 1 : 0, #condition, __LINE__)
+
+static int is(poheldu_answer a, uint32_t number, uint32_t value)
+{
+    return a.number == number && a.value == value;
+}
+
+/* The source that was lent last. */
+static const uint8_t *lent;
+static size_t lent_len;
+
+poheldu_answer watched_serve(uint8_t *heap, size_t heap_len, uint8_t *metadata, size_t metadata_len,
+                             const uint8_t *request, size_t request_len, const uint8_t *source, size_t source_len)
+{
+    const uintptr_t first = (uintptr_t)source, start = (uintptr_t)heap;
+    EXPECT(source_len == 0 || heap_len == 0 || first + source_len <= start || start + heap_len <= first);
+    lent = source;
+    lent_len = source_len;
+    return poheldu_serve(heap, heap_len, metadata, metadata_len, request, request_len, source, source_len);
+}
+
+/* ---- heaps to try on */
+
+static void *allocated(size_t len)
+{
+    void *const p = malloc(len + (len == 0));
+    if (p == NULL)
+        abort();
+    return p;
+}
+
+static uint32_t random_below(uint32_t bound)
+{
+    static uint64_t state = 88172645463325252u;
+    state ^= state << 13;
+    state ^= state >> 7;
+    state ^= state << 17;
+    return (uint32_t)(state >> 32) % bound;
+}
+
+static void fill(uint8_t *bytes, size_t len)
+{
+    for (size_t i = 0; i < len; i++)
+        bytes[i] = (uint8_t)(random_below(16) == 0 ? 0 : 1 + random_below(255));
+}
+
+static poheldu_heap opened(size_t region)
+{
+    poheldu_heap h = {NULL, POHELDU_HEAP_BYTES(region), NULL, POHELDU_METADATA_BYTES(region)};
+    h.heap = (uint8_t *)allocated(h.heap_len);
+    h.metadata = (uint8_t *)allocated(h.metadata_len);
+    fill(h.heap, h.heap_len);
+    EXPECT(is(poheldu_open(h.heap, h.heap_len, h.metadata, h.metadata_len, 7, 11), POHELDU_SERVED, 0));
+    return h;
+}
+
+static void closed(poheldu_heap h)
+{
+    free(h.heap);
+    free(h.metadata);
+}
+
+/* The byte before a heap: no pointer that C lets a program make by subtraction. */
+static uint8_t *before_start(poheldu_heap h)
+{
+    return (uint8_t *)((uintptr_t)h.heap - 1);
+}
+
+static uint8_t *copy_of(const uint8_t *bytes, size_t len)
+{
+    uint8_t *const copy = (uint8_t *)allocated(len);
+    if (len > 0)
+        memcpy(copy, bytes, len);
+    return copy;
+}
+
+static poheldu_heap twin_of(poheldu_heap h)
+{
+    h.heap = copy_of(h.heap, h.heap_len);
+    h.metadata = copy_of(h.metadata, h.metadata_len);
+    return h;
+}
+
+static int same(poheldu_heap a, poheldu_heap b)
+{
+    return memcmp(a.heap, b.heap, a.heap_len) == 0 && memcmp(a.metadata, b.metadata, a.metadata_len) == 0;
+}
+
+/* ---- copies against poheldu_serve itself, which gets a source elsewhere, on a twin */
+
+static poheldu_answer served_apart(poheldu_heap twin, poheldu_operation operation, size_t offset, const uint8_t *source,
+                                   size_t len, uint32_t count)
+{
+    uint8_t request[POHELDU_REQUEST_BYTES], *const apart = copy_of(source, len);
+    poheldu_pack(request, operation, (uint32_t)offset, count);
+    const poheldu_answer a =
+        poheldu_serve(twin.heap, twin.heap_len, twin.metadata, twin.metadata_len, request, sizeof request, apart, len);
+    free(apart);
+    return a;
+}
+
+static poheldu_answer copied(poheldu_heap h, poheldu_operation operation, size_t offset, const uint8_t *source,
+                             size_t len, uint32_t count)
+{
+    if (operation == POHELDU_COPY_BYTES)
+        return random_below(2) ? poheldu_copy_bytes(&h, offset, source, len)
+                               : poheldu_memcpy(&h, poheldu_at(&h, offset), source, len);
+    if (operation == POHELDU_COPY_STRING)
+        return poheldu_copy_string(&h, offset, source, len);
+    return poheldu_copy_padded(&h, offset, source, len, count);
+}
+
+/* The helper's answer and bytes are those of a copy from an equal source elsewhere. */
+static void try_copy(poheldu_heap h, poheldu_operation operation, size_t offset, const uint8_t *source, size_t len,
+                     uint32_t count)
+{
+    const poheldu_heap twin = twin_of(h);
+    const poheldu_answer want =
+        served_apart(twin, operation, offset, source, len, operation == POHELDU_COPY_PADDED ? count : 0);
+    const poheldu_answer got = copied(h, operation, offset, source, len, count);
+    EXPECT(is(got, want.number, want.value));
+    EXPECT(same(h, twin));
+    closed(twin);
+}
+
+/* The same of the two copies of C strings; bound: how many bytes may be read from the text on. */
+static void try_text(poheldu_heap h, size_t offset, const char *text, size_t bound, int padded, uint32_t count)
+{
+    const poheldu_heap twin = twin_of(h);
+    const uint8_t *const source = (const uint8_t *)text;
+    void *const to = poheldu_at(&h, offset);
+    const poheldu_answer want = padded ? served_apart(twin, POHELDU_COPY_PADDED, offset, source, bound, count)
+                                       : served_apart(twin, POHELDU_COPY_STRING, offset, source, bound, 0);
+    const poheldu_answer got = padded ? poheldu_strncpy(&h, to, text, count) : poheldu_strcpy(&h, to, text);
+    EXPECT(is(got, want.number, want.value));
+    EXPECT(same(h, twin));
+    closed(twin);
+}
+
+/* Sources in the heap, before it, behind it and over its ends; destinations anywhere in it. */
+static void random_copies(void)
+{
+    enum { BESIDE = 64, ROUNDS = 20000 };
+    poheldu_heap h = opened(POHELDU_SMALLEST_REGION);
+    uint8_t *const heap = h.heap, *const arena = (uint8_t *)allocated(BESIDE + h.heap_len + BESIDE);
+    const size_t arena_len = BESIDE + h.heap_len + BESIDE;
+    h.heap = arena + BESIDE;
+    free(heap);
+    unsigned overlapping = 0;
+    for (int round = 0; round < ROUNDS; round++) {
+        if (round % 16 == 0)
+            fill(arena, arena_len);
+        if (round % 4 == 0)
+            EXPECT(poheldu_allocate(&h, 1 + random_below(512)).number <= POHELDU_CLASS_AT_CAPACITY);
+        /* near each other as often as not, and often at the ends */
+        const size_t offset = random_below((uint32_t)h.heap_len);
+        const size_t near = BESIDE + offset + random_below(2 * BESIDE) - BESIDE;
+        const size_t start = random_below(2)   ? near
+                             : random_below(4) ? random_below((uint32_t)arena_len)
+                                               : random_below(BESIDE);
+        const size_t room = arena_len - start, len = random_below(random_below(2) ? 100 : 9000) % (room + 1);
+        const poheldu_operation operation = (poheldu_operation)(POHELDU_COPY_BYTES + random_below(3));
+        overlapping += start < BESIDE + h.heap_len && start + len > BESIDE;
+        try_copy(h, operation, offset, arena + start, len, random_below(200));
+        if (arena[start] != 0 && start >= BESIDE && start < BESIDE + h.heap_len)
+            try_text(h, offset, (const char *)arena + start, BESIDE + h.heap_len - start, round % 2, random_below(200));
+    }
+    EXPECT(overlapping > ROUNDS / 4 && overlapping < ROUNDS);
+    free(arena);
+    free(h.metadata);
+}
+
+/* Within one object the source is read before anything is written, in either direction. */
+static void copies_within_an_object(void)
+{
+    const poheldu_heap h = opened(4096);
+    char *const p = (char *)poheldu_new(&h, 16);
+    EXPECT(p != NULL);
+    memcpy(p, "abcdefghijklmnop", 16);
+    EXPECT(is(poheldu_memcpy(&h, p + 2, p, 16), POHELDU_SERVED, 14));
+    EXPECT(memcmp(p, "ababcdefghijklmn", 16) == 0);
+    EXPECT(is(poheldu_memcpy(&h, p, p + 2, 10), POHELDU_SERVED, 10));
+    EXPECT(memcmp(p, "abcdefghijijklmn", 16) == 0);
+    memcpy(p, "abcdefg\0ijklmnop", 16);
+    EXPECT(is(poheldu_strcpy(&h, p + 3, p), POHELDU_SERVED, 8));
+    EXPECT(memcmp(p, "abcabcdefg\0lmnop", 16) == 0);
+    EXPECT(is(poheldu_strcpy(&h, p, p + 3), POHELDU_SERVED, 8));
+    EXPECT(memcmp(p, "abcdefg\0fg\0lmnop", 16) == 0);
+    EXPECT(is(poheldu_strncpy(&h, p + 2, p, 12), POHELDU_SERVED, 12));
+    EXPECT(memcmp(p, "ababcdefg\0\0\0\0\0op", 16) == 0);
+    EXPECT(is(poheldu_strncpy(&h, p, p + 2, 4), POHELDU_SERVED, 4));
+    EXPECT(memcmp(p, "abcdcdefg\0\0\0\0\0op", 16) == 0);
+    EXPECT(is(poheldu_memcpy(&h, p, p, 16), POHELDU_SERVED, 16));
+    EXPECT(memcmp(p, "abcdcdefg\0\0\0\0\0op", 16) == 0);
+    closed(h);
+}
+
+/* A source in the heap longer than any object, with its first zero before, at and after the longest one's end. */
+static void long_sources(void)
+{
+    const poheldu_heap h = opened(65536);
+    const size_t len = POHELDU_LARGEST_OBJECT + 4000, source = 16;
+    uint8_t *const to = (uint8_t *)poheldu_new(&h, POHELDU_LARGEST_OBJECT), *const from = h.heap + source;
+    EXPECT(to != NULL && to > from + len);
+    const size_t offset = (size_t)(to - h.heap);
+    for (size_t zero = POHELDU_LARGEST_OBJECT - 2; zero < POHELDU_LARGEST_OBJECT + 3; zero++)
+        for (int operation = POHELDU_COPY_BYTES; operation <= POHELDU_COPY_PADDED; operation++)
+            for (size_t into = 0; into < 3; into++) {
+                memset(from, 'x', len);
+                from[zero] = 0;
+                fill(to, POHELDU_LARGEST_OBJECT);
+                try_copy(h, (poheldu_operation)operation, offset + into, from, len, 20000);
+                try_text(h, offset + into, (const char *)from, len, operation == POHELDU_COPY_PADDED, 20000);
+            }
+    closed(h);
+}
+
+/* A source that shares no byte with the heap is lent as it is. */
+static void sources_elsewhere(void)
+{
+    const poheldu_heap h = opened(1024);
+    const size_t len = POHELDU_LARGEST_OBJECT + 1;
+    uint8_t *const from = (uint8_t *)allocated(len), *const to = (uint8_t *)poheldu_new(&h, 512);
+    memset(from, 'x', len);
+    EXPECT(is(poheldu_memcpy(&h, to, from, len), POHELDU_SERVED, 512) && lent == from && lent_len == len);
+    EXPECT(is(poheldu_memcpy(&h, to, NULL, 0), POHELDU_SERVED, 0) && lent == NULL && lent_len == 0);
+    EXPECT(is(poheldu_copy_string(&h, poheldu_offset(&h, to), from, len), POHELDU_SERVED, 512) && lent == from &&
+           lent_len == len);
+    EXPECT(is(poheldu_copy_padded(&h, poheldu_offset(&h, to), from, len, 9), POHELDU_SERVED, 9) && lent == from &&
+           lent_len == len);
+    EXPECT(is(poheldu_copy_padded(&h, poheldu_offset(&h, to), NULL, 0, 9), POHELDU_SERVED, 9) && to[0] == 0 &&
+           to[9] == 'x');
+    /* up to the first byte of the heap, and from behind its last */
+    EXPECT(!poheldu_overlap_(before_start(h), 1, h.heap, h.heap_len));
+    EXPECT(poheldu_overlap_(before_start(h), 2, h.heap, h.heap_len));
+    EXPECT(!poheldu_overlap_(h.heap + h.heap_len, 4, h.heap, h.heap_len));
+    EXPECT(poheldu_overlap_(h.heap + h.heap_len - 1, 1, h.heap, h.heap_len));
+    EXPECT(!poheldu_overlap_(h.heap, 0, h.heap, h.heap_len) && !poheldu_overlap_(h.heap, 1, h.heap, 0));
+    EXPECT(!poheldu_overlap_(before_start(h), 2, h.heap, 0));
+    EXPECT(!poheldu_overlap_(NULL, 0, NULL, 0) && !poheldu_overlap_(NULL, 0, h.heap, h.heap_len));
+    free(from);
+    closed(h);
+}
+
+/* No byte of a text is read after its first zero, nor after the count, nor past the heap's end. */
+static void ends_of_texts(void)
+{
+    const poheldu_heap h = opened(1024);
+    char *const p = (char *)poheldu_new(&h, 8), *const text = (char *)allocated(5),
+                *const end = (char *)h.heap + h.heap_len;
+    memcpy(text, "Anna", 5);
+    EXPECT(is(poheldu_strcpy(&h, p, text), POHELDU_SERVED, 5) && memcmp(p, "Anna", 5) == 0 && lent_len == 5);
+    EXPECT(is(poheldu_strncpy(&h, p, text, 8), POHELDU_SERVED, 8) && memcmp(p, "Anna\0\0\0\0", 8) == 0);
+    memcpy(text, "Cleos", 5);
+    EXPECT(is(poheldu_strncpy(&h, p, text, 5), POHELDU_SERVED, 5) && memcmp(p, "Cleos\0\0\0", 8) == 0);
+    EXPECT(is(poheldu_strncpy(&h, p, NULL, 0), POHELDU_SERVED, 0) && memcmp(p, "Cleos\0\0\0", 8) == 0);
+    EXPECT(is(poheldu_strcpy(&h, p, "Bertrand"), POHELDU_SERVED, 8) && memcmp(p, "Bertrand", 8) == 0);
+    EXPECT(is(poheldu_strcpy(&h, p + 4, "Ann"), POHELDU_SERVED, 4) && memcmp(p, "BertAnn", 8) == 0);
+    memcpy(end - 3, "end", 3);
+    EXPECT(is(poheldu_strcpy(&h, p, end - 3), POHELDU_SERVED, 3) && memcmp(p, "endtAnn", 8) == 0);
+    EXPECT(is(poheldu_strncpy(&h, p, end - 3, 6), POHELDU_SERVED, 6) && memcmp(p, "end\0\0\0n", 8) == 0);
+    char *const longest = (char *)allocated(POHELDU_LARGEST_OBJECT);
+    memset(longest, 'x', POHELDU_LARGEST_OBJECT);
+    EXPECT(is(poheldu_strcpy(&h, p, longest), POHELDU_SERVED, 8) && memcmp(p, "xxxxxxxx", 8) == 0);
+    EXPECT(is(poheldu_strncpy(&h, p, longest, SIZE_MAX), POHELDU_SERVED, 8));
+    free(longest);
+    free(text);
+    closed(h);
+}
+
+/* Of a size, a count and an offset above 32 bits nothing is cut; the order of the checks stays. */
+static void wide_numbers(void)
+{
+    const poheldu_heap h = opened(1024), before = twin_of(h);
+    const size_t wide = (size_t)UINT32_MAX + 1;
+    const size_t sizes[] = {0, POHELDU_LARGEST_OBJECT + 1, UINT32_MAX, wide, wide + 8, SIZE_MAX};
+    for (size_t i = 0; i < sizeof sizes / sizeof *sizes; i++) {
+        EXPECT(is(poheldu_allocate(&h, sizes[i]), POHELDU_UNSUPPORTED_SIZE, 0));
+        EXPECT(poheldu_new(&h, sizes[i]) == NULL);
+    }
+    EXPECT(same(h, before));
+    closed(before);
+
+    char *const p = (char *)poheldu_new(&h, 8);
+    const size_t offset = poheldu_offset(&h, p), counts[] = {UINT32_MAX, wide, wide + 2, SIZE_MAX};
+    for (size_t i = 0; i < sizeof counts / sizeof *counts; i++) {
+        EXPECT(is(poheldu_copy_padded(&h, offset, "ab", 2, counts[i]), POHELDU_SERVED, 8));
+        memset(p, 'x', 8);
+        EXPECT(is(poheldu_strncpy(&h, p, "ab", counts[i]), POHELDU_SERVED, 8) && memcmp(p, "ab\0\0\0\0\0\0", 8) == 0);
+        EXPECT(is(poheldu_free(&h, counts[i]), POHELDU_OUT_OF_RANGE, 0));
+        EXPECT(is(poheldu_remaining(&h, counts[i]), POHELDU_OUT_OF_RANGE, 0));
+        EXPECT(is(poheldu_copy_bytes(&h, counts[i], "ab", 2), POHELDU_OUT_OF_RANGE, 0));
+        EXPECT(is(poheldu_copy_string(&h, counts[i], "ab", 2), POHELDU_OUT_OF_RANGE, 0));
+        EXPECT(poheldu_at(&h, counts[i]) == NULL);
+    }
+    EXPECT(is(poheldu_free(&h, wide + offset), POHELDU_OUT_OF_RANGE, 0));
+    EXPECT(is(poheldu_free(&h, offset), POHELDU_SERVED, 8));
+
+    const poheldu_heap bad_heap = {h.heap, h.heap_len - 1, h.metadata, h.metadata_len};
+    const poheldu_heap bad_metadata = {h.heap, h.heap_len, h.metadata, h.metadata_len - 1};
+    EXPECT(is(poheldu_allocate(&bad_heap, wide), POHELDU_HEAP_LENGTH, 0));
+    EXPECT(is(poheldu_allocate(&bad_metadata, wide), POHELDU_METADATA_LENGTH, 0));
+    EXPECT(is(poheldu_free(&bad_metadata, wide), POHELDU_METADATA_LENGTH, 0));
+    closed(h);
+}
+
+/* ---- objects by pointer */
+
+static void deletes(void)
+{
+    const poheldu_heap h = opened(1024), nowhere = {NULL, 0, NULL, 0};
+    char *const p = (char *)poheldu_new(&h, 100), *const one = (char *)poheldu_new(&h, 8);
+    EXPECT(p != NULL && one != NULL && poheldu_at(&h, poheldu_offset(&h, p)) == p);
+    const poheldu_heap before = twin_of(h);
+    EXPECT(is(poheldu_delete(&h, NULL), POHELDU_SERVED, 0));
+    EXPECT(is(poheldu_delete(&nowhere, NULL), POHELDU_SERVED, 0));
+    EXPECT(is(poheldu_delete(&h, p + 1), POHELDU_NOT_A_SLOT_START, 0));
+    EXPECT(is(poheldu_delete(&h, before_start(h)), POHELDU_OUT_OF_RANGE, 0));
+    EXPECT(is(poheldu_delete(&h, h.heap + h.heap_len), POHELDU_OUT_OF_RANGE, 0));
+    EXPECT(is(poheldu_delete(&h, h.metadata), POHELDU_OUT_OF_RANGE, 0));
+    EXPECT(is(poheldu_delete(&nowhere, p), POHELDU_HEAP_LENGTH, 0));
+    EXPECT(same(h, before));
+    closed(before);
+    EXPECT(is(poheldu_delete(&h, p), POHELDU_SERVED, 128));
+    EXPECT(is(poheldu_delete(&h, p), POHELDU_NOT_ALLOCATED, 0));
+    EXPECT(is(poheldu_delete(&h, one), POHELDU_SERVED, 8));
+    closed(h);
+}
+
+static void usable_sizes(void)
+{
+    const poheldu_heap h = opened(1024);
+    char *const p = (char *)poheldu_new(&h, 100);
+    EXPECT(poheldu_usable_size(&h, p) == 128 && poheldu_usable_size(&h, p + 100) == 28 &&
+           poheldu_usable_size(&h, p + 127) == 1);
+    EXPECT(poheldu_usable_size(&h, NULL) == 0 && poheldu_usable_size(&h, before_start(h)) == 0);
+    EXPECT(poheldu_usable_size(&h, h.heap + h.heap_len) == 0 && poheldu_usable_size(&h, h.heap + h.heap_len - 1) == 0);
+    EXPECT(is(poheldu_remaining(&h, poheldu_offset(&h, p)), POHELDU_SERVED, 128));
+    poheldu_delete(&h, p);
+    EXPECT(poheldu_usable_size(&h, p) == 0);
+    EXPECT(is(poheldu_memcpy(&h, p, "ab", 2), POHELDU_SERVED, 0));
+    closed(h);
+}
+
+/* A destination outside the heap is refused, whatever the source. */
+static void destinations_outside(void)
+{
+    const poheldu_heap h = opened(1024), before = twin_of(h);
+    uint8_t elsewhere[8] = {0};
+    void *const outside[] = {NULL, elsewhere, before_start(h), h.heap + h.heap_len, h.metadata};
+    for (size_t i = 0; i < sizeof outside / sizeof *outside; i++) {
+        EXPECT(poheldu_offset(&h, outside[i]) == UINT32_MAX);
+        EXPECT(is(poheldu_memcpy(&h, outside[i], "ab", 2), POHELDU_OUT_OF_RANGE, 0));
+        EXPECT(is(poheldu_memcpy(&h, outside[i], h.heap, 9), POHELDU_OUT_OF_RANGE, 0));
+        EXPECT(is(poheldu_strcpy(&h, outside[i], "ab"), POHELDU_OUT_OF_RANGE, 0));
+        EXPECT(is(poheldu_strncpy(&h, outside[i], "ab", 4), POHELDU_OUT_OF_RANGE, 0));
+    }
+    EXPECT(poheldu_offset(&h, h.heap) == 0 && poheldu_offset(&h, h.heap + h.heap_len - 1) == h.heap_len - 1);
+    EXPECT(poheldu_at(&h, 0) == h.heap && poheldu_at(&h, h.heap_len) == NULL);
+    EXPECT(elsewhere[0] == 0 && same(h, before));
+    closed(before);
+    closed(h);
+}
+
+/* ---- macros */
+
+typedef uint8_t heap_array[POHELDU_HEAP_BYTES(1024)], metadata_array[POHELDU_METADATA_BYTES(1 << 12)];
+static_assert(sizeof(heap_array) == 12 * 1024, "twelve regions");
+static_assert(POHELDU_METADATA_BYTES(1024) == 42 && sizeof(metadata_array) == 138, "as the rules have it");
+static_assert(POHELDU_METADATA_BYTES(1048576) == 32768 && POHELDU_LARGEST_OBJECT == 16384, "as the rules have it");
+static_assert(POHELDU_HEAP_BYTES(1000) == 0 && POHELDU_METADATA_BYTES(1000) == 0, "no region");
+
+static void macros(void)
+{
+    int regions = 0;
+    for (size_t region = 1; region <= (size_t)1 << 22; region *= 2)
+        for (size_t beside = region - 1; beside <= region + 1; beside++) {
+            const size_t heap_len = POHELDU_CLASSES * beside, metadata_len = poheldu_metadata_length(heap_len);
+            EXPECT(POHELDU_METADATA_BYTES(beside) == metadata_len);
+            EXPECT(POHELDU_HEAP_BYTES(beside) == (metadata_len > 0 ? heap_len : 0));
+            regions += metadata_len > 0;
+        }
+    EXPECT(regions == 11);
+    char version[32];
+    snprintf(version, sizeof version, "%d.%d.%d", POHELDU_VERSION_MAJOR, POHELDU_VERSION_MINOR, POHELDU_VERSION_PATCH);
+    EXPECT(strcmp(version, POHELDU_VERSION) == 0);
+}
+
+int main(void)
+{
+    setvbuf(stdout, NULL, _IOLBF, 0);
+    macros();
+    wide_numbers();
+    deletes();
+    usable_sizes();
+    destinations_outside();
+    ends_of_texts();
+    sources_elsewhere();
+    copies_within_an_object();
+    long_sources();
+    random_copies();
+    printf("%lu checks, %lu failed\n", checks, failures);
+    return failures > 0;
+}

@@ -1,0 +1,142 @@
+/*
+ * What include/poheldu.h says in words against the library: its table of how many objects a class takes, and the names
+ * of its refusals. The first argument is the header's path. Prints what is wrong, and then exits 1.
+ */
+#include "poheldu.h"
+
+#include <ctype.h>
+#include <stdio.h>
+#include <stdlib.h>
+#include <string.h>
+
+enum { COLUMNS = 6, LINE = 256, NO_OBJECTS = -1 };
+
+static unsigned cells, names, failures;
+
+static void wrong(const char *what, const char *line)
+{
+    printf("%s: %s\n", what, line);
+    failures++;
+}
+
+/* The next number of a line in the table: 1,024 or, for none, a dash. */
+static long number(const char **at)
+{
+    long n = 0;
+    *at += strspn(*at, " ");
+    if (**at == '-') {
+        ++*at;
+        return NO_OBJECTS;
+    }
+    for (; isdigit((unsigned char)**at) || **at == ','; ++*at)
+        if (**at != ',')
+            n = 10 * n + (**at - '0');
+    return n;
+}
+
+static poheldu_heap opened(size_t region)
+{
+    const poheldu_heap h = {calloc(1, POHELDU_HEAP_BYTES(region)), POHELDU_HEAP_BYTES(region),
+                            calloc(1, POHELDU_METADATA_BYTES(region)), POHELDU_METADATA_BYTES(region)};
+    const poheldu_answer a = poheldu_open(h.heap, h.heap_len, h.metadata, h.metadata_len, 7, 11);
+    if (h.heap == NULL || h.metadata == NULL || a.number != POHELDU_SERVED) {
+        printf("region of %zu bytes: %s\n", region, poheldu_name(a.number));
+        exit(1);
+    }
+    return h;
+}
+
+/* How many objects of these sizes in turn a class takes, and what it answers to one more; line: where that stands. */
+static size_t taken(size_t region, size_t least, size_t most, uint32_t *refusal, const char *line)
+{
+    const poheldu_heap h = opened(region);
+    size_t count = 0;
+    poheldu_answer a = poheldu_allocate(&h, least);
+    for (; a.number == POHELDU_SERVED; a = poheldu_allocate(&h, count % 2 == 0 ? least : most)) {
+        count++;
+        if (count <= 2 && poheldu_remaining(&h, a.value).value != most)
+            wrong("a size of another class", line);
+    }
+    *refusal = a.number;
+    free(h.heap);
+    free(h.metadata);
+    return count;
+}
+
+/* A row: the sizes of a class, and for each region how many objects it takes. */
+static void check_row(const char *line, unsigned row, const size_t regions[COLUMNS])
+{
+    static size_t last;
+    const char *at = line + strlen(" *");
+    const size_t least = (size_t)number(&at);
+    at += strlen(" to");
+    const size_t most = (size_t)number(&at);
+    at += strlen(" bytes");
+    if (least != last + 1 || row >= POHELDU_CLASSES || most != POHELDU_SLOT_BYTES(row))
+        wrong("not the sizes of the class", line);
+    last = most;
+    for (int i = 0; i < COLUMNS; i++, cells++) {
+        const long cell = number(&at);
+        uint32_t refusal;
+        const size_t count = taken(regions[i], least, most, &refusal, line);
+        if (count != (size_t)(cell == NO_OBJECTS ? 0 : cell) || count != POHELDU_CAPACITY(regions[i], row))
+            wrong("another number of objects", line);
+        if (refusal != (cell == NO_OBJECTS ? POHELDU_CLASS_TOO_SMALL : POHELDU_CLASS_AT_CAPACITY))
+            wrong("another refusal after the last object", line);
+    }
+}
+
+static void check_table(FILE *header)
+{
+    static const char head[] = " *   objects in a region of ";
+    char line[LINE] = "";
+    size_t regions[COLUMNS] = {0};
+    unsigned rows = 0;
+    while (fgets(line, LINE, header) != NULL && strncmp(line, head, strlen(head)) != 0)
+        ;
+    const char *at = line + strlen(head);
+    for (int i = 0; i < COLUMNS; i++)
+        regions[i] = (size_t)number(&at);
+    while (fgets(line, LINE, header) != NULL && strstr(line, " bytes ") != NULL)
+        check_row(line, rows++, regions);
+    if (rows != POHELDU_CLASSES)
+        wrong("not a row for each class", head);
+}
+
+/* A refusal's name is its enumerator's: POHELDU_ZERO_SEED = 1 is "zero seed". */
+static void check_names(FILE *header)
+{
+    static const char prefix[] = "    POHELDU_";
+    char line[LINE] = "";
+    while (fgets(line, LINE, header) != NULL && strcmp(line, "typedef enum {\n") != 0)
+        ;
+    for (; fgets(line, LINE, header) != NULL && strncmp(line, prefix, strlen(prefix)) == 0; names++) {
+        char *const name = line + strlen(prefix), *const equals = strstr(name, " = ");
+        if (equals == NULL)
+            break;
+        const unsigned long value = strtoul(equals + strlen(" = "), NULL, 10);
+        *equals = '\0';
+        for (char *c = name; *c != '\0'; c++)
+            *c = *c == '_' ? ' ' : (char)tolower((unsigned char)*c);
+        if (value != names || strcmp(poheldu_name((uint32_t)value), name) != 0)
+            wrong("not the name of that number", name);
+    }
+    if (strcmp(line, "} poheldu_refusal;\n") != 0)
+        wrong("not the enum of refusals", line);
+    if (strcmp(poheldu_name(names), "unknown") != 0 || strcmp(poheldu_name(UINT32_MAX), "unknown") != 0)
+        wrong("a name for a number that no refusal has", poheldu_name(names));
+}
+
+int main(int count, char **arguments)
+{
+    FILE *const header = count == 2 ? fopen(arguments[1], "r") : NULL;
+    if (header == NULL) {
+        fprintf(stderr, "usage: manual include/poheldu.h\n");
+        return 2;
+    }
+    check_table(header);
+    check_names(header);
+    fclose(header);
+    printf("%u cells and %u names, %u wrong\n", cells, names, failures);
+    return failures > 0 || cells == 0 || names == 0;
+}
