@@ -1,17 +1,23 @@
-# make run      builds assemble and benchrun, proved, and serves the eight requests of examples/eight.txt
+# make run      builds the programs and serves the eight requests of examples/eight.txt
+# make programs target/assemble and target/benchrun: each starts the proved program of its name in target/bin and gives its status
 # make test     the gate: proofs, must-fail edits, programs, and the tests below tests/
 # make lib      target/staticlib/libcapi.a, for C programs with include/poheldu.h
 # make fuzz     any bytes through the C interface, for FUZZ_SECONDS (60); wants clang
 # make expected writes crates/conformance/stdout anew, by the second implementation
 # make bench    ratios against the second implementation, memcpy, memcmp and malloc
 # make instructions  how many instructions a request takes; wants valgrind
-.PHONY: run test lib fuzz expected bench instructions
+.PHONY: run programs test lib fuzz expected bench instructions
 
 FUZZ_SECONDS ?= 60
 
-run:
-	@mkdir -p target && rt check assemble benchrun > target/run.log 2>&1 || { tail -n 20 target/run.log; exit 1; }
-	@target/bin/assemble < examples/eight.txt | target/bin/benchrun
+run: programs
+	@bash -o pipefail -c 'target/assemble < examples/eight.txt | target/benchrun'
+
+programs: target/assemble target/benchrun
+	@rt check assemble benchrun > target/programs.log 2>&1 || { tail -n 20 target/programs.log; exit 1; }
+
+target/assemble target/benchrun: programs/launch.c
+	@mkdir -p target && gcc -std=c11 -Wall -Wextra -Werror -O2 $< -o $@
 
 test:
 	.ci/run
