@@ -1,0 +1,99 @@
+-- However an input is cut into pieces, its requests are served as they are from the whole.
+use Prim.Native.Nat.{ℕ, zero, suc, _+_, _*_, _/_, _≤_}
+use native.Mathlib.Nat.{zero-add, add-zero, suc-add}
+use native.Mathlib.Omega.{arith}
+use mathlib.Core.Path.{_≡_, refl, sym, _∙_}
+use mathlib.Core.Bool.{false}
+use mathlib.Core.List.{List, [], _∷_, _++_, append-assoc, append-nil, flatten}
+use lib.ListN.{length, take, drop, length-append, length-take, length-drop, take-append-drop}
+use lib.Seq.{take-append-le, drop-append-le}
+use Rattle.replay.specs.Line.{lineFor}
+use Rattle.replay.specs.Batch.{State, served, requests, lines, after}
+use Rattle.replay.specs.Pieces.{ready, rest, allLines, allAfter, linesIn, afterIn}
+
+-- no bytes
+empty : (a : List ℕ) → length a ≡ 0 → a ≡ []
+empty [] e = refl
+empty (x ∷ a) e = absurd (omega arith)
+
+-- k whole requests, and j after them
+module _ (b : List ℕ) (j : ℕ) where
+  module _ (k : ℕ) (a : List ℕ) (e : length a ≡ 16 * suc k) where
+    first : take 16 (a ++ b) ≡ take 16 a
+    first = take-append-le 16 a b (omega arith)
+
+    later : drop 16 (a ++ b) ≡ drop 16 a ++ b
+    later = drop-append-le 16 a b (omega arith)
+
+    fewer : length (drop 16 a) ≡ 16 * k
+    fewer = rw length-drop (omega arith)
+
+  lines-append : (k : ℕ) (a : List ℕ) (s : State) (number : ℕ) → length a ≡ 16 * k
+      → lines (k + j) s number (a ++ b) ≡ lines k s number a ++ lines j (after k s a) (number + k) b
+  unfolding lines after
+  lines-append zero a s number e = rw (empty a e, zero-add, add-zero)
+  lines-append (suc k) a s number e =
+      let next : number + 1 + k ≡ number + suc k = omega arith in
+      rw (suc-add, first k a e, later k a e, lines-append k (drop 16 a) (served s (take 16 a)) (number + 1) (fewer k a e), next)
+      (sym (append-assoc (lineFor (length (s .heap)) (s .metadata) (take 16 a) number) _ _))
+
+  after-append : (k : ℕ) (a : List ℕ) (s : State) → length a ≡ 16 * k → after (k + j) s (a ++ b) ≡ after j (after k s a) b
+  unfolding after
+  after-append zero a s e = rw (empty a e, zero-add)
+  after-append (suc k) a s e =
+      let one : after (suc (k + j)) s (a ++ b) ≡ after (k + j) (served s (take 16 (a ++ b))) (drop 16 (a ++ b)) = refl in
+      rw (suc-add, one, first k a e, later k a e) (after-append k (drop 16 a) (served s (take 16 a)) (fewer k a e))
+
+-- whole requests, and any bytes after them
+module _ (k : ℕ) (a b : List ℕ) (whole : length a ≡ 16 * k) (s : State) where
+  count : requests a ≡ k
+  count = omega arith
+
+  counts : requests (a ++ b) ≡ k + requests b
+  counts = rw length-append (omega arith)
+
+  lines-parts : (number : ℕ) → allLines s number (a ++ b) ≡ allLines s number a ++ allLines (allAfter s a) (number + requests a) b
+  lines-parts number = rw (counts, count) (lines-append b (requests b) k a s number whole)
+
+  after-parts : allAfter s (a ++ b) ≡ allAfter (allAfter s a) b
+  after-parts = rw (counts, count) (after-append b (requests b) k a s whole)
+
+-- a piece after what was kept: what is ready of both, and what is kept with all that comes later
+module _ (s : State) (kept piece more : List ℕ) where
+  abbrev now : List ℕ
+  now = kept ++ piece
+
+  now-whole : length (ready false now) ≡ 16 * (length now / 16)
+  now-whole = rw length-take (omega arith)
+
+  now-parts : kept ++ (piece ++ more) ≡ ready false now ++ (rest false now ++ more)
+  now-parts = sym (sym (append-assoc (ready false now) (rest false now) more) ∙ rw take-append-drop (append-assoc kept piece more))
+
+  lines-now : (number : ℕ)
+      → allLines s number (ready false now) ++ allLines (allAfter s (ready false now)) (number + requests (ready false now)) (rest false now ++ more)
+      ≡ allLines s number (kept ++ (piece ++ more))
+  lines-now number = rw now-parts (sym (lines-parts (length now / 16) (ready false now) (rest false now ++ more) now-whole s number))
+
+  after-now : allAfter (allAfter s (ready false now)) (rest false now ++ more) ≡ allAfter s (kept ++ (piece ++ more))
+  after-now = rw now-parts (sym (after-parts (length now / 16) (ready false now) (rest false now ++ more) now-whole s))
+
+lines-in : (pieces : List (List ℕ)) (s : State) (number : ℕ) (kept : List ℕ) → linesIn s number kept pieces ≡ allLines s number (kept ++ flatten pieces)
+unfolding linesIn flatten
+lines-in [] s number kept = rw append-nil
+lines-in (piece ∷ more) s number kept =
+    rw (lines-in more (allAfter s (ready false (kept ++ piece))) (number + requests (ready false (kept ++ piece))) (rest false (kept ++ piece)))
+    (lines-now s kept piece (flatten more) number)
+
+after-in : (pieces : List (List ℕ)) (s : State) (kept : List ℕ) → afterIn s kept pieces ≡ allAfter s (kept ++ flatten pieces)
+unfolding afterIn flatten
+after-in [] s kept = rw append-nil
+after-in (piece ∷ more) s kept =
+    after-in more (allAfter s (ready false (kept ++ piece))) (rest false (kept ++ piece)) ∙ after-now s kept piece (flatten more)
+
+-- however an input is cut, its lines and the state after it are those of the whole
+module _ (pieces : List (List ℕ)) (s : State) where
+  pub lines-however-cut : (number : ℕ) → linesIn s number [] pieces ≡ allLines s number (flatten pieces)
+  lines-however-cut number = lines-in pieces s number []
+
+  pub state-however-cut : afterIn s [] pieces ≡ allAfter s (flatten pieces)
+  state-however-cut = after-in pieces s []
