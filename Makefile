@@ -3,7 +3,7 @@
 # make test     the gate: proofs, must-fail edits, programs, and the tests below tests/
 # make lib      target/staticlib/libcapi.a, for C programs with include/poheldu.h
 # make fuzz     any bytes through the C interface, for FUZZ_SECONDS (60); wants clang
-# make expected writes crates/conformance/stdout anew, by the second implementation
+# make expected writes what benchrun and conformance must print (crates/*/stdout) anew, by the second implementation
 # make bench    ratios against the second implementation, memcpy, memcmp and malloc
 # make instructions  how many instructions a request takes; wants valgrind
 .PHONY: run programs test lib fuzz expected bench instructions
@@ -32,6 +32,7 @@ fuzz: lib
 
 expected: lib
 	cd tests && cargo build --release --offline --quiet
+	target/tests/release/expected < crates/benchrun/stdin > crates/benchrun/stdout
 	target/tests/release/conformance < crates/conformance/stdin > crates/conformance/stdout
 
 bench:
