@@ -2,7 +2,7 @@
 use Prim.Native.Nat.{ℕ, zero, suc, _+_, _*_, _/_, _≤_}
 use native.Mathlib.Nat.{zero-add, add-zero, suc-add}
 use native.Mathlib.Omega.{arith}
-use mathlib.Core.Path.{_≡_, refl, sym, _∙_}
+use mathlib.Core.Path.{_≡_, refl, sym, ap, _∙_}
 use mathlib.Core.Bool.{false}
 use mathlib.Core.List.{List, [], _∷_, _++_, append-assoc, append-nil, flatten}
 use lib.ListN.{length, take, drop, length-append, length-take, length-drop, take-append-drop}
@@ -81,8 +81,9 @@ lines-in : (pieces : List (List ℕ)) (s : State) (number : ℕ) (kept : List �
 unfolding linesIn flatten
 lines-in [] s number kept = rw append-nil
 lines-in (piece ∷ more) s number kept =
-    rw (lines-in more (allAfter s (ready false (kept ++ piece))) (number + requests (ready false (kept ++ piece))) (rest false (kept ++ piece)))
-    (lines-now s kept piece (flatten more) number)
+    let now : List ℕ = ready false (kept ++ piece) in
+    let later = lines-in more (allAfter s now) (number + requests now) (rest false (kept ++ piece)) in
+    ap (λ (l : List ℕ). allLines s number now ++ l) later ∙ lines-now s kept piece (flatten more) number
 
 after-in : (pieces : List (List ℕ)) (s : State) (kept : List ℕ) → afterIn s kept pieces ≡ allAfter s (kept ++ flatten pieces)
 unfolding afterIn flatten
