@@ -60,36 +60,36 @@ module _ (k : ℕ) (a b : List ℕ) (whole : length a ≡ 16 * k) (s : State) wh
 
 -- a piece after what was kept: what is ready of both, and what is kept with all that comes later
 module _ (s : State) (kept piece more : List ℕ) where
-  abbrev now : List ℕ
-  now = kept ++ piece
+  abbrev gathered : List ℕ
+  gathered = kept ++ piece
 
-  now-whole : length (ready false now) ≡ 16 * (length now / 16)
-  now-whole = rw length-take (omega arith)
+  gathered-whole : length (ready false gathered) ≡ 16 * (length gathered / 16)
+  gathered-whole = rw length-take (omega arith)
 
-  now-parts : kept ++ (piece ++ more) ≡ ready false now ++ (rest false now ++ more)
-  now-parts = sym (sym (append-assoc (ready false now) (rest false now) more) ∙ rw take-append-drop (append-assoc kept piece more))
+  gathered-parts : kept ++ (piece ++ more) ≡ ready false gathered ++ (rest false gathered ++ more)
+  gathered-parts = sym (sym (append-assoc (ready false gathered) (rest false gathered) more) ∙ rw take-append-drop (append-assoc kept piece more))
 
-  lines-now : (number : ℕ)
-      → allLines s number (ready false now) ++ allLines (allAfter s (ready false now)) (number + requests (ready false now)) (rest false now ++ more)
+  lines-gathered : (number : ℕ)
+      → allLines s number (ready false gathered) ++ allLines (allAfter s (ready false gathered)) (number + requests (ready false gathered)) (rest false gathered ++ more)
       ≡ allLines s number (kept ++ (piece ++ more))
-  lines-now number = rw now-parts (sym (lines-parts (length now / 16) (ready false now) (rest false now ++ more) now-whole s number))
+  lines-gathered number = rw gathered-parts (sym (lines-parts (length gathered / 16) (ready false gathered) (rest false gathered ++ more) gathered-whole s number))
 
-  after-now : allAfter (allAfter s (ready false now)) (rest false now ++ more) ≡ allAfter s (kept ++ (piece ++ more))
-  after-now = rw now-parts (sym (after-parts (length now / 16) (ready false now) (rest false now ++ more) now-whole s))
+  after-gathered : allAfter (allAfter s (ready false gathered)) (rest false gathered ++ more) ≡ allAfter s (kept ++ (piece ++ more))
+  after-gathered = rw gathered-parts (sym (after-parts (length gathered / 16) (ready false gathered) (rest false gathered ++ more) gathered-whole s))
 
 lines-in : (pieces : List (List ℕ)) (s : State) (number : ℕ) (kept : List ℕ) → linesIn s number kept pieces ≡ allLines s number (kept ++ flatten pieces)
 unfolding linesIn flatten
 lines-in [] s number kept = rw append-nil
 lines-in (piece ∷ more) s number kept =
-    let now : List ℕ = ready false (kept ++ piece) in
-    let later = lines-in more (allAfter s now) (number + requests now) (rest false (kept ++ piece)) in
-    ap (λ (l : List ℕ). allLines s number now ++ l) later ∙ lines-now s kept piece (flatten more) number
+    let whole : List ℕ = ready false (kept ++ piece) in
+    let later = lines-in more (allAfter s whole) (number + requests whole) (rest false (kept ++ piece)) in
+    ap (λ (l : List ℕ). allLines s number whole ++ l) later ∙ lines-gathered s kept piece (flatten more) number
 
 after-in : (pieces : List (List ℕ)) (s : State) (kept : List ℕ) → afterIn s kept pieces ≡ allAfter s (kept ++ flatten pieces)
 unfolding afterIn flatten
 after-in [] s kept = rw append-nil
 after-in (piece ∷ more) s kept =
-    after-in more (allAfter s (ready false (kept ++ piece))) (rest false (kept ++ piece)) ∙ after-now s kept piece (flatten more)
+    after-in more (allAfter s (ready false (kept ++ piece))) (rest false (kept ++ piece)) ∙ after-gathered s kept piece (flatten more)
 
 -- however an input is cut, its lines and the state after it are those of the whole
 module _ (pieces : List (List ℕ)) (s : State) where

@@ -27,8 +27,8 @@ allAfter s bytes = after (requests bytes) s bytes
 unfoldable pub linesIn : State → ℕ → List ℕ → List (List ℕ) → List ℕ
 linesIn s number kept [] = allLines s number kept
 linesIn s number kept (piece ∷ more) =
-    let now : List ℕ = ready false (kept ++ piece) in
-    allLines s number now ++ linesIn (allAfter s now) (number + requests now) (rest false (kept ++ piece)) more
+    let whole : List ℕ = ready false (kept ++ piece) in
+    allLines s number whole ++ linesIn (allAfter s whole) (number + requests whole) (rest false (kept ++ piece)) more
 
 -- the state that this leaves
 unfoldable pub afterIn : State → List ℕ → List (List ℕ) → State

@@ -1,3 +1,4 @@
+-- `run` opens a heap and serves the requests on it.
 use mathlib.Core.Path.{_∙_}
 use borrow.Author.Needs.{needs}
 use Rattle.conformance.proofs.run.Statement.{statement}

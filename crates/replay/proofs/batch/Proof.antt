@@ -1,3 +1,4 @@
+-- `batch` writes the lines of an input and leaves the state after it.
 use Prim.Native.Nat.{_-_, _≤_}
 use native.Mathlib.Omega.{arith}
 use mathlib.Core.Path.{refl}
