@@ -1,5 +1,5 @@
 -- However an input is cut into pieces, its requests are served as they are from the whole.
-use Prim.Native.Nat.{ℕ, zero, suc, _+_, _*_, _/_, _≤_}
+use Prim.Native.Nat.{ℕ, zero, suc, _+_, _*_, _/_, _^_, _≤_, _<_}
 use native.Mathlib.Nat.{zero-add, add-zero, suc-add}
 use native.Mathlib.Omega.{arith}
 use mathlib.Core.Path.{_≡_, refl, sym, ap, _∙_}
@@ -7,9 +7,10 @@ use mathlib.Core.Bool.{false}
 use mathlib.Core.List.{List, [], _∷_, _++_, append-assoc, append-nil, flatten}
 use lib.ListN.{length, take, drop, length-append, length-take, length-drop, take-append-drop}
 use lib.Seq.{take-append-le, drop-append-le}
-use Rattle.replay.specs.Line.{lineFor}
-use Rattle.replay.specs.Batch.{State, served, requests, lines, after}
+use Rattle.replay.specs.Line.{lineRoom, lineFor}
+use Rattle.replay.specs.Batch.{State, served, requests, lines, after, batchOf}
 use Rattle.replay.specs.Pieces.{ready, rest, allLines, allAfter, linesIn, afterIn}
+use Rattle.replay.proofs.Replayed.{accepted-all}
 
 -- no bytes
 empty : (a : List ℕ) → length a ≡ 0 → a ≡ []
@@ -98,3 +99,8 @@ module _ (pieces : List (List ℕ)) (s : State) where
 
   pub state-however-cut : afterIn s [] pieces ≡ allAfter s (flatten pieces)
   state-however-cut = after-in pieces s []
+
+-- where there is room for the lines and for their numbers, a batch serves all requests
+pub batch-all : (room number : ℕ) (s : State) (bytes : List ℕ) → requests bytes * lineRoom ≤ room → number + requests bytes < 2 ^ 64
+    → batchOf room s number bytes ≡ record { text = allLines s number bytes; state = allAfter s bytes; next = number + requests bytes }
+batch-all room number s bytes lines numbers = rw (← accepted-all room number bytes lines numbers)
