@@ -1,12 +1,13 @@
-# make run      builds assemble and benchrun, proved, and serves the eight requests of examples/eight.txt
+# make run      builds the programs and serves the eight requests of examples/eight.txt
+# make programs target/assemble and target/benchrun: each starts the proved program of its name in target/bin and gives its status
 # make test     the gate: proofs, must-fail edits, programs, and the tests below tests/
 # make lib      target/libpoheldu.a, proved, for C programs with include/poheldu.h
 # make fuzz     runs of calls held against the second implementation, for FUZZ_SECONDS (60); wants clang
 # make soak     the differential test for SOAK_CALLS (100000000) calls, from a seed that it prints; SEED=N repeats one
-# make expected writes crates/conformance/stdout anew, by the second implementation
+# make expected writes what benchrun and conformance must print (crates/*/stdout) anew, by the second implementation
 # make bench    ratios against the second implementation, memcpy, memcmp and malloc
 # make instructions  how many instructions a request takes; wants valgrind
-.PHONY: run test lib fuzz fuzz-tools soak expected bench instructions
+.PHONY: run programs test lib fuzz fuzz-tools soak expected bench instructions
 
 FUZZ_SECONDS ?= 60
 FUZZ_SOURCES = $(filter-out tests/fuzz/driver.c,$(wildcard tests/fuzz/*.c))
@@ -14,9 +15,14 @@ FUZZ_COVERAGE = -Cpasses=sancov-module -Cllvm-args=-sanitizer-coverage-level=4 -
 	-Cllvm-args=-sanitizer-coverage-pc-table
 SOAK_CALLS ?= 100000000
 
-run:
-	@mkdir -p target && rt check assemble benchrun > target/run.log 2>&1 || { tail -n 20 target/run.log; exit 1; }
-	@target/bin/assemble < examples/eight.txt | target/bin/benchrun
+run: programs
+	@bash -o pipefail -c 'target/assemble < examples/eight.txt | target/benchrun'
+
+programs: target/assemble target/benchrun
+	@rt check assemble benchrun > target/programs.log 2>&1 || { tail -n 20 target/programs.log; exit 1; }
+
+target/assemble target/benchrun: programs/launch.c
+	@mkdir -p target && gcc -std=c11 -Wall -Wextra -Werror -O2 $< -o $@
 
 test:
 	.ci/run
@@ -50,6 +56,7 @@ soak: lib
 
 expected: lib
 	cd tests && cargo build --release --offline --quiet
+	target/tests/release/expected < crates/benchrun/stdin > crates/benchrun/stdout
 	target/tests/release/conformance < crates/conformance/stdin > crates/conformance/stdout
 
 bench:

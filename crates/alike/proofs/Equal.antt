@@ -1,6 +1,6 @@
 -- Lists are alike where they are equal.
 use Prim.Native.Nat.{ℕ}
-use mathlib.Core.Path.{_≡_, refl}
+use mathlib.Core.Path.{_≡_, refl, sym, ap, _∙_}
 use mathlib.Core.Bool.{Bool, true, false, _&&_}
 use mathlib.Core.List.{List, [], _∷_}
 use lib.Dec.{eqb}
@@ -24,3 +24,12 @@ alike-equal (x ∷ xs) (y ∷ ys) h = go (eqb x y) refl h (alike-equal xs ys)
     go : (t : Bool) → eqb x y ≡ t → t && alike xs ys ≡ true → (alike xs ys ≡ true → xs ≡ ys) → x ∷ xs ≡ y ∷ ys
     go true e h rest = cc (eqb-true x y e, rest h)
     go false e h rest = cc
+
+-- a test that tells whether two lists are equal tells whether they are alike
+pub same-told : (a b : List ℕ) (r : Bool) → (r ≡ true → a ≡ b) → (a ≡ b → r ≡ true) → r ≡ alike a b
+same-told a b true sound complete = sym (ap (alike a) (sym (sound refl)) ∙ alike-self a)
+same-told a b false sound complete = go (alike a b) refl
+  where
+    go : (t : Bool) → alike a b ≡ t → false ≡ t
+    go true e = complete (alike-equal a b e)
+    go false e = refl

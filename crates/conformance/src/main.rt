@@ -13,7 +13,7 @@ ghost use lib.ListN.{length};
 ghost use Rattle.answer.specs.Reply.{Reply};
 ghost use Rattle.writing.specs.Overwrite.{overwrite};
 ghost use Rattle.rules.specs.Open.{setup, openReply};
-ghost use Rattle.replay.specs.Batch.{batchLines, batchAfter};
+ghost use Rattle.replay.specs.Batch.{State, Batch, stateOf, batchOf};
 ghost use Rattle.conformance.specs.Case.{wordAt, caseOf, openedState};
 
 // The lengths of a case's heap, metadata and requests, and its seeds.
@@ -58,18 +58,23 @@ fn case_of(header: &[u8]) -> Case
 
 // Opens the heap, and serves the requests whatever the opening answered.
 fn run(heap: &mut [u8], metadata: &mut [u8], z: u32, w: u32, requests: &[u8], out: &mut [u8]) -> Ran
-    ensures { λ r. ⌜ _≡_ {A = Reply} (record { number = r .number; value = r .value }) (openReply (length (now (heap .entry))) (length (now (metadata .entry))) (setup z w)) ⌝ }
-    ensures { λ r. ⌜ (r .written ≡ length (batchLines (length (now (out .entry))) (openedState (now (heap .entry)) (now (metadata .entry)) z w) 1 (now (requests .entry)))) × (r .written ≤ length (now (out .exit))) ⌝ }
-    ensures { λ _. ⌜ now (out .exit) ≡ overwrite (now (out .entry)) 0 (batchLines (length (now (out .entry))) (openedState (now (heap .entry)) (now (metadata .entry)) z w) 1 (now (requests .entry))) ⌝ }
-    ensures { λ _. ⌜ now (metadata .exit) ≡ batchAfter (length (now (out .entry))) (openedState (now (heap .entry)) (now (metadata .entry)) z w) 1 (now (requests .entry)) .metadata ⌝ }
-    ensures { λ _. ⌜ now (heap .exit) ≡ batchAfter (length (now (out .entry))) (openedState (now (heap .entry)) (now (metadata .entry)) z w) 1 (now (requests .entry)) .heap ⌝ }
+    ensures { λ r.
+        let opened : Reply = openReply (length (now (heap .entry))) (length (now (metadata .entry))) (setup z w) in
+        ⌜ _≡_ {A = Reply} (record { number = r .number; value = r .value }) opened ⌝ }
+    ensures { λ r.
+        let s : State = openedState (now (heap .entry)) (now (metadata .entry)) z w in
+        let b : Batch = batchOf (length (now (out .entry))) s 1 (now (requests .entry)) in
+        ⌜ (r .written ≡ length (b .text))
+        × (now (out .exit) ≡ overwrite (now (out .entry)) 0 (b .text))
+        × (stateOf (now (heap .exit)) (now (metadata .exit)) ≡ b .state) ⌝ }
+    ensures { λ r. ⌜ r .written ≤ length (now (out .exit)) ⌝ }
 {
     let answer = heap::open(heap, metadata, z, w);
-    let written = replay::batch(heap, metadata, requests, 1, out);
+    let done = replay::batch(heap, metadata, requests, 1, out);
     Ran {
         number: answer.number(),
         value: answer.value(),
-        written,
+        written: done.written,
     }
 }
 

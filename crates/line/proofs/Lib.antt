@@ -1,4 +1,3 @@
-pub mod Names
 pub mod Digits
 pub mod Reading
 pub mod Examples

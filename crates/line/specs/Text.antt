@@ -1,18 +1,11 @@
--- Texts as bytes in ASCII, and their words.
+-- The words of a text.
 use Prim.Native.Nat.{ℕ, _-_}
-use Prim.Native.Char.{code}
-use Prim.Native.String.{String, [], _∷_}
 use mathlib.Core.Bool.{not}
-use mathlib.Core.List as list
 use mathlib.Core.List.{List}
 use lib.ListN.{length, take, drop, getD}
 use lib.Dec.{eqb}
 use Rattle.search.specs.First.{first}
-
--- the bytes of a quoted text
-unfoldable pub bytes : String → List ℕ
-bytes [] = list.[]
-bytes (c ∷ s) = list._∷_ (code c) (bytes s)
+unfoldable pub use Rattle.alike.specs.Text.{bytes}
 
 abbrev pub space : ℕ
 space = 32

@@ -2,6 +2,7 @@
 mod number;
 mod scan;
 
+use alike::same;
 ghost use mathlib.Core.Path.{_≡_};
 ghost use mathlib.Core.List.{[]};
 ghost use Prim.Native.Nat.{_%_, _<_, _≤_};
@@ -27,12 +28,6 @@ const LONGEST: usize = 255;
 const OPERATIONS: u32 = 6;
 
 const COUNTED: u32 = 5;
-
-fn same(a: &[u8], b: &[u8]) -> bool
-    ensures { λ r. ⌜ r ≡ alike (now (a .entry)) (now (b .entry)) ⌝ }
-{
-    check::same(a, b)
-}
 
 fn is_name(word: &[u8], operation: u32) -> bool
     requires { ⌜ operation < 6 ⌝ }

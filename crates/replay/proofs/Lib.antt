@@ -1,1 +1,3 @@
 pub mod Replayed
+pub mod Gathered
+pub mod Cutting

@@ -11,7 +11,7 @@ use lib.Seq.{take-all, take-length, drop-length, drop-drop}
 use borrow.Author.Tests.{lt-ltb, le-ltb, le-leb, lt-leb}
 use Rattle.writing.specs.Overwrite.{overwrite}
 use Rattle.replay.specs.Line.{lineRoom, lineFor}
-use Rattle.replay.specs.Batch.{State, served, requests, lines, after, accepted, batchLines, batchAfter}
+use Rattle.replay.specs.Batch.{State, served, requests, lines, after, accepted, batchOf}
 use Rattle.writing.proofs.Writing.{Wrote, wrote-then, wrote-from, wrote-length}
 
 module _ (room number : ℕ) (input : List ℕ) where
@@ -77,8 +77,9 @@ pub record Replayed (before : State) (number : ℕ) (input out₀ : List ℕ) (n
   pub text : List ℕ
   pub wrote : Wrote out₀ out 0 text
   pub size : written ≡ length text
-  pub text-rest : batchLines (length out₀) before number input ≡ text ++ lines left now next (drop at input)
-  pub state-rest : batchAfter (length out₀) before number input ≡ after left now (drop at input)
+  pub text-rest : batchOf (length out₀) before number input .text ≡ text ++ lines left now next (drop at input)
+  pub state-rest : batchOf (length out₀) before number input .state ≡ after left now (drop at input)
+  pub next-rest : batchOf (length out₀) before number input .next ≡ next + left
   pub within : at ≤ length input
   pub room : written + left * lineRoom ≤ length out
   pub numbers : next + left < 2 ^ 64
@@ -97,6 +98,7 @@ module _ {before : State} {number : ℕ} {input out₀ : List ℕ} where
         size = refl;
         text-rest = rw e;
         state-rest = rw e;
+        next-rest = rw e;
         within = omega arith;
         room = omega arith;
         numbers = numbers;
@@ -107,17 +109,20 @@ module _ {before : State} {number : ℕ} {input out₀ : List ℕ} where
 
   module _ {now : State} {out : List ℕ} {left next at written : ℕ} (p : Replayed before number input out₀ now out left next at written) where
     -- all is served
-    pub replayed-lines : left ≤ 0 → batchLines (length out₀) before number input ≡ p .text
+    pub replayed-lines : left ≤ 0 → batchOf (length out₀) before number input .text ≡ p .text
     unfolding lines
     replayed-lines h =
         let none : left ≡ 0 = omega arith in
         p .text-rest ∙ rw none (append-nil (p .text))
 
-    pub replayed-state : left ≤ 0 → batchAfter (length out₀) before number input ≡ now
+    pub replayed-state : left ≤ 0 → batchOf (length out₀) before number input .state ≡ now
     unfolding after
     replayed-state h =
         let none : left ≡ 0 = omega arith in
         p .state-rest ∙ rw none
+
+    pub replayed-next : left ≤ 0 → next ≡ batchOf (length out₀) before number input .next
+    replayed-next h = sym (p .next-rest ∙ omega arith)
 
     -- one request more is served, and its line written
     pub replayed-more : 0 < left → {end r : ℕ} {w heap metadata : List ℕ} → end ≡ at + min 16 (length input - at)
@@ -141,6 +146,7 @@ module _ {before : State} {number : ℕ} {input out₀ : List ℕ} where
           size = rw (length-append, size, p .size);
           text-rest = p .text-rest ∙ rw (lines-more left now (drop at input) some next, state, request-rest input at end e) (sym (append-assoc (p .text) line _));
           state-rest = p .state-rest ∙ rw (after-more left now (drop at input) some, state, request-rest input at end e);
+          next-rest = p .next-rest ∙ omega arith;
           within = omega arith;
           room = omega arith;
           numbers = omega arith;

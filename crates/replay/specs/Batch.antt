@@ -14,6 +14,9 @@ pub record State : Type 0 where
   pub heap : List ℕ
   pub metadata : List ℕ
 
+abbrev pub stateOf : List ℕ → List ℕ → State
+stateOf heap metadata = record { heap = heap; metadata = metadata }
+
 -- the state after a request, served with an empty source
 abbrev pub served : State → List ℕ → State
 served s request =
@@ -40,9 +43,13 @@ abbrev pub accepted : ℕ → ℕ → List ℕ → ℕ
 accepted room number input =
     cond (leb (requests input * lineRoom) room && ltb (number + requests input) (2 ^ 64)) (requests input) 0
 
--- a batch's lines, and the state it leaves
-abbrev pub batchLines : ℕ → State → ℕ → List ℕ → List ℕ
-batchLines room s number input = lines (accepted room number input) s number input
+-- what a batch comes to: its lines, the state it leaves, and the number of the line after it
+pub record Batch : Type 0 where
+  pub text : List ℕ
+  pub state : State
+  pub next : ℕ
 
-abbrev pub batchAfter : ℕ → State → ℕ → List ℕ → State
-batchAfter room s number input = after (accepted room number input) s input
+abbrev pub batchOf : ℕ → State → ℕ → List ℕ → Batch
+batchOf room s number input =
+    let k : ℕ = accepted room number input in
+    record { text = lines k s number input; state = after k s input; next = number + k }

@@ -1,4 +1,6 @@
 // Replaying requests: each is served and answered by a line of text.
+pub mod gather;
+
 ghost use mathlib.Core.Path.{_≡_};
 ghost use Prim.Native.Nat.{suc, _+_, _-_, _*_, _^_, _<_, _≤_, min};
 ghost use lib.ListN.{length};
@@ -10,7 +12,7 @@ ghost use Rattle.writing.specs.Overwrite.{overwrite};
 ghost use Rattle.rules.specs.Outcome.{metadataAfter, heapAfter};
 ghost use Rattle.rules.specs.Serve.{serve};
 ghost use Rattle.replay.specs.Line.{field, lineOf, lineRoom, hasRoom, lineFor};
-ghost use Rattle.replay.specs.Batch.{accepted, batchLines, batchAfter};
+ghost use Rattle.replay.specs.Batch.{State, Batch, stateOf, accepted, batchOf};
 
 const WIDTH: usize = 20;
 
@@ -104,19 +106,28 @@ fn request_end(at: usize, len: usize) -> usize
     }
 }
 
-// Serves every request of the input with an empty source, writes their lines one after another at the front of the output, and answers how
-// many bytes it wrote. Where the output may be too short for the lines, or 64 bits for the numbers, nothing is served or written.
+// How many bytes of lines are written, and the number of the line after them.
+pub struct Done {
+    pub written: usize,
+    pub next: u64,
+}
+
+// Serves every request of the input with an empty source, and writes their lines one after another at the front of the output. Where the output
+// may be too short for the lines, or 64 bits for the numbers, nothing is served or written.
 pub fn batch(
     heap: &mut [u8],
     metadata: &mut [u8],
     input: &[u8],
     number: u64,
     out: &mut [u8],
-) -> usize
-    ensures { λ r. ⌜ (r ≡ length (batchLines (length (now (out .entry))) (record { heap = now (heap .entry); metadata = now (metadata .entry) }) number (now (input .entry)))) × (r ≤ length (now (out .exit))) ⌝ }
-    ensures { λ _. ⌜ now (out .exit) ≡ overwrite (now (out .entry)) 0 (batchLines (length (now (out .entry))) (record { heap = now (heap .entry); metadata = now (metadata .entry) }) number (now (input .entry))) ⌝ }
-    ensures { λ _. ⌜ now (metadata .exit) ≡ batchAfter (length (now (out .entry))) (record { heap = now (heap .entry); metadata = now (metadata .entry) }) number (now (input .entry)) .metadata ⌝ }
-    ensures { λ _. ⌜ now (heap .exit) ≡ batchAfter (length (now (out .entry))) (record { heap = now (heap .entry); metadata = now (metadata .entry) }) number (now (input .entry)) .heap ⌝ }
+) -> Done
+    ensures { λ r.
+        let s : State = stateOf (now (heap .entry)) (now (metadata .entry)) in
+        let b : Batch = batchOf (length (now (out .entry))) s number (now (input .entry)) in
+        ⌜ (r .written ≡ length (b .text)) × (r .next ≡ b .next)
+        × (now (out .exit) ≡ overwrite (now (out .entry)) 0 (b .text))
+        × (stateOf (now (heap .exit)) (now (metadata .exit)) ≡ b .state) ⌝ }
+    ensures { λ r. ⌜ r .written ≤ length (now (out .exit)) ⌝ }
 {
     let mut left = accepted(input, number, out.len());
     let mut next = number;
@@ -129,5 +140,5 @@ pub fn batch(
         next += 1;
         left -= 1;
     }
-    written
+    Done { written, next }
 }

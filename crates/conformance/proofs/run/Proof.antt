@@ -1,3 +1,4 @@
+-- `run` opens a heap and serves the requests on it.
 use mathlib.Core.Path.{_∙_}
 use borrow.Author.Needs.{needs}
 use Rattle.conformance.proofs.run.Statement.{statement}
@@ -27,9 +28,9 @@ same-length-3 c = search needs
 returns : tie.Need-returns
 returns c =
     let opening = c .before .before .before .before .before .before .before .before .before .before .before .before .before .before .«open» in
-    let served = c .before .before .before .before .before .before .before .before .batch in (
+    let served = rw (opening .ensures .1) at (c .before .before .before .before .before .before .before .before .batch .ensures) in (
       (λ i. record { number = c .before .number .ensures i; value = c .value .ensures i }) ∙ opening .ensures .0,
-      rw (opening .ensures .1) at (served .ensures),
+      ((served .0 .0, served .0 .2, served .0 .3), served .1),
     )
 
 pub run-spec : {M : Type 1} → statement M

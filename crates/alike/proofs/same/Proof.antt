@@ -1,7 +1,8 @@
+-- `same` answers what `alike` says.
 use borrow.Author.Needs.{needs}
-use Rattle.line.proofs.Names.{same-told}
-use Rattle.line.proofs.same.Statement.{statement}
-use Rattle.line.proofs.same.Tie as tie
+use Rattle.alike.proofs.Equal.{same-told}
+use Rattle.alike.proofs.same.Statement.{statement}
+use Rattle.alike.proofs.same.Tie as tie
 
 same-requires : tie.Need-same-requires
 same-requires c κs = search needs
