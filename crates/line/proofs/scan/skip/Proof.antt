@@ -1,7 +1,7 @@
+-- The first place without a blank.
 use Prim.Native.Nat.{_-_, _≤_}
 use mathlib.Core.Path.{_≡_, refl, sym, _∙_}
 use native.Mathlib.Omega.{arith}
-use borrow.Author.Tests.{eq-eqb, ne-eqb}
 use lib.ListN.{length}
 use Rattle.search.proofs.First.{first-found, first-past, first-none}
 use Rattle.line.specs.Text.{skip}
@@ -17,11 +17,15 @@ abbrev μ-loop : tie.MeasureT-loop
 loop-holds : tie.Need-loop-holds Inv-loop μ-loop
 loop-holds c = (omega arith, omega arith, refl)
 
-shared-slice-read-if1 : tie.Need-shared-slice-read-if1 Inv-loop μ-loop
-shared-slice-read-if1 c = omega arith
+shared-slice-read-is-blank : tie.Need-shared-slice-read-is-blank Inv-loop μ-loop
+shared-slice-read-is-blank c = omega arith
+
+is-blank-requires : tie.Need-is-blank-requires Inv-loop μ-loop
+is-blank-requires c κs = tt
 
 returns : tie.Need-returns Inv-loop μ-loop
-returns c = (sym (c .before .before .before .loop .inv .2 ∙ first-found _ (omega arith) (rw (ne-eqb _ _ (c .if1 .taken)))), omega arith)
+returns c =
+    (sym (c .before .before .before .before .loop .inv .2 ∙ first-found _ (omega arith) (rw (sym (c .before .is-blank .ensures), c .if1 .taken))), omega arith)
 
 add-at : tie.Need-add-at Inv-loop μ-loop
 add-at c = omega arith
@@ -30,7 +34,8 @@ loop-less : tie.Need-loop-less Inv-loop μ-loop
 loop-less c = omega arith
 
 loop-again : tie.Need-loop-again Inv-loop μ-loop
-loop-again c = (omega arith, omega arith, c .before .before .before .loop .inv .2 ∙ first-past _ (omega arith) (rw (eq-eqb _ _ (c .if1 .left))))
+loop-again c =
+    (omega arith, omega arith, c .before .before .before .before .loop .inv .2 ∙ first-past _ (omega arith) (rw (sym (c .before .is-blank .ensures), c .if1 .left)))
 
 returns-2 : tie.Need-returns-2 Inv-loop μ-loop
 returns-2 c = (sym (c .before .loop .inv .2 ∙ first-none _ (omega arith)), omega arith)
@@ -42,7 +47,8 @@ skip-spec =
     Inv-loop
     μ-loop
     loop-holds
-    shared-slice-read-if1
+    shared-slice-read-is-blank
+    is-blank-requires
     returns
     add-at
     loop-less
