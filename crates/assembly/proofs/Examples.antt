@@ -31,7 +31,7 @@ unfolding bytes trimmedEnd readText messagesOf messageOf said decimalIn
 long-line-named = refl
 
 -- 24 bytes of a word are shown; a longer one has dots, and a byte that is not printable is a question mark
-words-shown : map (λ w. found (bytes w)) ("abcdefghijklmnopqrstuvwx" ∷ "abcdefghijklmnopqrstuvwxy" ∷ "5\r6\u{1b}" ∷ "ÿ!~\u{7f}" ∷ [])
-    ≡ map bytes ("\"abcdefghijklmnopqrstuvwx\"\n" ∷ "\"abcdefghijklmnopqrstuvwx\"...\n" ∷ "\"5?6?\"\n" ∷ "\"?!~?\"\n" ∷ [])
+words-shown : map (λ w. found (bytes w)) ("abcdefghijklmnopqrstuvwx" ∷ "abcdefghijklmnopqrstuvwxy" ∷ "a\rb\u{1b}c" ∷ "!aÿ~" ∷ "a\u{7f}b" ∷ [])
+    ≡ map bytes ("\"abcdefghijklmnopqrstuvwx\"\n" ∷ "\"abcdefghijklmnopqrstuvwx\"...\n" ∷ "\"a?b?c\"\n" ∷ "\"!a?~\"\n" ∷ "\"a?b\"\n" ∷ [])
 unfolding bytes found shown shownByte
 words-shown = refl

@@ -6,6 +6,7 @@ use lib.ListN.{length, take}
 use lib.Dec.{leb, eqb}
 use Rattle.decimal.specs.Decimal.{width, decimal}
 use Rattle.line.specs.Text.{bytes, wordAt}
+use Rattle.line.specs.declared.Word.{Word}
 use Rattle.line.specs.declared.Line.{Line}
 use Rattle.line.specs.declared.Line.the-variants.{Request, Nothing, BadOperation, BadNumber, TrailingText, TooLong}
 
@@ -30,14 +31,17 @@ found word = cond (eqb (length word) 0) (bytes "the end of the line\n") (shown w
 unfoldable pub said : ℕ → List ℕ → List ℕ
 said number text = bytes "line " ++ (decimal number ++ text)
 
+-- what was expected in the line with a number, up to `found`, and the word that stands there
+abbrev pub saidFound : ℕ → List ℕ → List ℕ → Word → List ℕ
+saidFound number expected line w = said number (expected ++ found (wordAt line w))
+
 -- what the line with a number should have been, and what it is; nothing where it is no bad line
 unfoldable pub messageOf : ℕ → List ℕ → Line → List ℕ
 messageOf number line (Request operation argument count) = []
 messageOf number line Nothing = []
-messageOf number line (BadOperation w) =
-    said number (bytes ": expected place, free, measure, copy, text or counted, found " ++ found (wordAt line w))
-messageOf number line (BadNumber w) = said number (bytes ": expected a number from 0 to 4294967295, found " ++ found (wordAt line w))
-messageOf number line (TrailingText w) = said number (bytes ": expected nothing after the numbers, found " ++ found (wordAt line w))
+messageOf number line (BadOperation w) = saidFound number (bytes ": expected place, free, measure, copy, text or counted, found ") line w
+messageOf number line (BadNumber w) = saidFound number (bytes ": expected a number from 0 to 4294967295, found ") line w
+messageOf number line (TrailingText w) = saidFound number (bytes ": expected nothing after the numbers, found ") line w
 messageOf number line TooLong = said number (bytes ": expected at most 255 bytes, found more\n")
 
 -- the lengths of the longest text up to `found`, of what is found, and of a message: room for any

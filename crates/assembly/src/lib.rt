@@ -131,7 +131,12 @@ pub fn assemble(
     out: &mut [u8],
     errors: &mut [u8],
 ) -> Turn
-    ensures { λ r. ⌜ (record { turn = r; input = now (input .exit); out = now (out .exit); errors = now (errors .exit) })
+    ensures { λ r. ⌜ (record {
+      turn = r;
+      input = now (input .exit);
+      out = now (out .exit);
+      errors = now (errors .exit);
+    })
         ≡ outcome (now (input .entry)) kept got number (now (out .entry)) (now (errors .entry)) ⌝ }
     ensures { λ r. ⌜ (r .kept ≤ longestStart) × (r .requests ≤ length (now (out .exit))) ⌝ }
     ensures { λ r. ⌜ r .messages ≤ length (now (errors .exit)) ⌝ }

@@ -2,14 +2,13 @@
 use line::Line;
 use line::Word;
 ghost use mathlib.Core.Path.{_≡_};
-ghost use mathlib.Core.List.{_++_, map};
+ghost use mathlib.Core.List.{map};
 ghost use Prim.Native.Nat.{_+_, _≤_};
 ghost use lib.ListN.{length};
 ghost use Rattle.decimal.specs.Decimal.{width, decimal};
 ghost use Rattle.writing.specs.Overwrite.{overwrite};
-ghost use Rattle.line.specs.Text.{wordAt};
 ghost use Rattle.line.specs.Line.{requestSize, requestOf};
-ghost use Rattle.assembly.specs.Message.{shownByte, shown, found, said, messageOf, expectedRoom, foundRoom, messageRoom};
+ghost use Rattle.assembly.specs.Message.{shownByte, shown, found, said, saidFound, messageOf, expectedRoom, foundRoom, messageRoom};
 
 const WIDTH: usize = 20;
 
@@ -112,10 +111,10 @@ fn say_found(
 ) -> usize
     requires { ⌜ length (now expected) ≤ expectedRoom ⌝ }
     requires { ⌜ at + messageRoom ≤ length (now out) ⌝ }
-    ensures { λ r. ⌜ (r ≡ at + length (said number (now (expected .entry) ++ found (wordAt (now (line .entry)) word))))
-        × (r ≤ at + messageRoom) ⌝ }
+    ensures { λ r. ⌜ r ≡ at + length (saidFound number (now (expected .entry)) (now (line .entry)) word) ⌝ }
+    ensures { λ r. ⌜ r ≤ at + messageRoom ⌝ }
     ensures { λ _. ⌜ now (out .exit)
-        ≡ overwrite (now (out .entry)) at (said number (now (expected .entry) ++ found (wordAt (now (line .entry)) word))) ⌝ }
+        ≡ overwrite (now (out .entry)) at (saidFound number (now (expected .entry)) (now (line .entry)) word) ⌝ }
 {
     let end = say(number, expected, out, at);
     put_found(line::word_bytes(line, word), out, end)

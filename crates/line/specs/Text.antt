@@ -1,6 +1,6 @@
 -- The words of a text.
 use Prim.Native.Nat.{ℕ, _-_}
-use mathlib.Core.Bool.{Bool, not, cond, _||_}
+use mathlib.Core.Bool.{Bool, true, false, cond, _||_, Bool·beq}
 use mathlib.Core.List.{List}
 use lib.ListN.{length, take, drop, getD}
 use lib.Dec.{eqb}
@@ -12,17 +12,15 @@ use Rattle.line.specs.declared.Word.{Word}
 unfoldable pub isBlank : ℕ → Bool
 isBlank b = eqb b 9 || eqb b 32
 
--- the first place from a on that holds no blank; the length where none does
-abbrev pub skip : List ℕ → ℕ → ℕ
-skip text a = first (λ i. not (isBlank (getD text i 0))) a (length text - a)
-
--- the first place from a on that holds a blank; the length where none does
-abbrev pub wordEnd : List ℕ → ℕ → ℕ
-wordEnd text a = first (λ i. isBlank (getD text i 0)) a (length text - a)
+-- the first place from a on whose byte is a blank, or is none, as asked; the length where there is no such place
+abbrev pub seek : List ℕ → ℕ → Bool → ℕ
+seek text a blank = first (λ i. Bool·beq (isBlank (getD text i 0)) blank) a (length text - a)
 
 -- where the next word lies from place a on; at the end of the text where only blanks are left
 unfoldable pub nextWord : List ℕ → ℕ → Word
-nextWord text a = record { start = skip text a; end = wordEnd text (skip text a) }
+nextWord text a =
+    let start : ℕ = seek text a false in
+    record { start = start; end = seek text start true }
 
 -- the bytes of a word
 abbrev pub wordAt : List ℕ → Word → List ℕ

@@ -3,7 +3,7 @@ use super::Word;
 ghost use mathlib.Core.Path.{_≡_};
 ghost use Prim.Native.Nat.{_≤_, min};
 ghost use lib.ListN.{length};
-ghost use Rattle.line.specs.Text.{isBlank, skip, wordEnd, nextWord, wordAt};
+ghost use Rattle.line.specs.Text.{isBlank, seek, nextWord, wordAt};
 
 fn is_blank(byte: u8) -> bool
     ensures { λ r. ⌜ r ≡ isBlank byte ⌝ }
@@ -14,31 +14,15 @@ fn is_blank(byte: u8) -> bool
     byte == b' '
 }
 
-// The first place that holds no blank, or the length.
-fn skip(text: &[u8], from: usize) -> usize
+// The first place whose byte is a blank, or is none, as asked; the length where there is no such place.
+fn seek(text: &[u8], from: usize, blank: bool) -> usize
     requires { ⌜ from ≤ length (now text) ⌝ }
-    ensures { λ r. ⌜ r ≡ skip (now (text .entry)) from ⌝ }
+    ensures { λ r. ⌜ r ≡ seek (now (text .entry)) from blank ⌝ }
     ensures { λ r. ⌜ (from ≤ r) × (r ≤ length (now (text .entry))) ⌝ }
 {
     let mut at = from;
     while at < text.len() {
-        if !is_blank(text[at]) {
-            return at;
-        }
-        at += 1;
-    }
-    at
-}
-
-// The first place that holds a blank, or the length.
-fn word_end(text: &[u8], from: usize) -> usize
-    requires { ⌜ from ≤ length (now text) ⌝ }
-    ensures { λ r. ⌜ r ≡ wordEnd (now (text .entry)) from ⌝ }
-    ensures { λ r. ⌜ (from ≤ r) × (r ≤ length (now (text .entry))) ⌝ }
-{
-    let mut at = from;
-    while at < text.len() {
-        if is_blank(text[at]) {
+        if is_blank(text[at]) == blank {
             return at;
         }
         at += 1;
@@ -52,8 +36,8 @@ pub fn next(text: &[u8], from: usize) -> Word
     ensures { λ r. ⌜ r ≡ nextWord (now (text .entry)) from ⌝ }
     ensures { λ r. ⌜ (r .start ≤ r .end) × (r .end ≤ length (now (text .entry))) ⌝ }
 {
-    let start = skip(text, from);
-    let end = word_end(text, start);
+    let start = seek(text, from, false);
+    let end = seek(text, start, true);
     Word { start, end }
 }
 

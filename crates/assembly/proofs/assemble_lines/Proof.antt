@@ -63,8 +63,9 @@ loop-less c = omega arith
 loop-again : tie.Need-loop-again Inv-loop μ-loop
 loop-again c =
     let m = c .before .before .before .message in
-    let q = c .before .before .before .before .before .before .before .before .request in
-    let r = c .before .before .before .before .before .before .before .before .before .before in
+    let b = c .before .before .before .before .before .before .before .before in
+    let q = b .request in
+    let r = b .before .before in
     let l = r .before .before .before .loop in
     assembled-more (l .inv) (omega arith) refl (r .read .ensures)
     (q .ensures .0 .0) (q .ensures .0 .1) (q .ensures .1) (m .ensures .0 .0) (m .ensures .0 .1) (m .ensures .1) (c .find2 .ensures .0) (omega arith)

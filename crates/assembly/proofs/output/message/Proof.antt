@@ -54,21 +54,21 @@ same-length c = search needs
 
 returns : tie.Need-returns
 unfolding bytes messageOf
-returns c = rw (c .before .before .before .before .before .before .read .given .1) (c .before .before .say-found .ensures)
+returns c = rw (c .before .before .before .before .before .before .read .given .1) ((c .before .before .say-found .ensures .0, c .before .before .say-found .ensures .1 .0), c .before .before .say-found .ensures .1 .1)
 
 same-length-2 : tie.Need-same-length-2
 same-length-2 c = search needs
 
 returns-2 : tie.Need-returns-2
 unfolding bytes messageOf
-returns-2 c = rw (c .before .before .before .before .before .before .read2 .given .1) (c .before .before .say-found2 .ensures)
+returns-2 c = rw (c .before .before .before .before .before .before .read2 .given .1) ((c .before .before .say-found2 .ensures .0, c .before .before .say-found2 .ensures .1 .0), c .before .before .say-found2 .ensures .1 .1)
 
 same-length-3 : tie.Need-same-length-3
 same-length-3 c = search needs
 
 returns-3 : tie.Need-returns-3
 unfolding bytes messageOf
-returns-3 c = rw (c .before .before .before .before .before .before .read3 .given .1) (c .before .before .say-found3 .ensures)
+returns-3 c = rw (c .before .before .before .before .before .before .read3 .given .1) ((c .before .before .say-found3 .ensures .0, c .before .before .say-found3 .ensures .1 .0), c .before .before .say-found3 .ensures .1 .1)
 
 same-length-4 : tie.Need-same-length-4
 same-length-4 c = search needs

@@ -63,15 +63,15 @@ same-length-2 c = search needs
 returns-2 : tie.Need-returns-2
 unfolding bytes
 returns-2 c =
-    let b = c .before .before .before .before .before .before .before .before .before .before in
+    let g = c .before .before .before .before .before .before .before in
+    let b = g .before .before .before in
     let a = b .before .before .before .before .before .before .before .before .args in
-    let g = c .before .before .before .before .before .before .before .put-shown2 in
     let start = take shownMost (a .word .now) in
     let size = length-map start shownByte in
     let size' = length-take shownMost (a .word .now) in
     let p =
     three-put (a .out .now) (bytes "\"") (map shownByte start) (a .at) _ (b .before .before .before .put .ensures .1) (b .before .before .before .put .ensures .0)
-    (bytes "\"...\n") _ (omega arith) (g .ensures .1) (omega arith) (c .before .before .put3 .ensures .1) (c .before .before .put3 .ensures .0) in
+    (bytes "\"...\n") _ (omega arith) (g .put-shown2 .ensures .1) (omega arith) (c .before .before .put3 .ensures .1) (c .before .before .put3 .ensures .0) in
     rw (shown-start (a .word .now) (omega arith)) ((p .0, omega arith), p .1)
 
 pub put-word-spec : {M : Type 1} → statement M

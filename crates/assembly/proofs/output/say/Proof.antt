@@ -26,10 +26,12 @@ same-length c = search needs
 returns : tie.Need-returns
 unfolding bytes said
 returns c =
-    let f = c .before .before .before .before .before .before .before .before .before .before .put in
-    let g = c .before .before .before .before .before .before .put-number in
+    let d = c .before .before .before .before .before .before in
+    let b = d .before .before .before .before in
+    let f = b .put in
+    let g = d .put-number in
     let h = c .before .before .put2 in
-    let a = c .before .before .before .before .before .before .before .before .before .before .before .before .before .before .before .args in
+    let a = b .before .before .before .before .before .args in
     let p =
     three-put (a .out .now) (bytes "line ") (decimal (a .number)) (a .at) _ (f .ensures .1) (f .ensures .0)
     (a .text .now) _ (omega arith) (g .ensures .1) (g .ensures .0 .0) (h .ensures .1) (h .ensures .0) in

@@ -27,7 +27,7 @@ returns c =
     let word = found (wordAt (a .line .now) (a .word)) in
     let f = rw e at (c .before .before .put-found .ensures) in
     let p = two-put (a .out .now) (said (a .number) (a .expected .now)) word (a .at) _ (b .say .ensures .1) (b .say .ensures .0 .0) (omega arith) (f .1) (f .0 .0) in
-    rw (said-append (a .number) (a .expected .now) word) ((p .0, omega arith), p .1)
+    rw (said-append (a .number) (a .expected .now) word) (p .0, (omega arith, p .1))
 
 pub say-found-spec : {M : Type 1} → statement M
 say-found-spec =

@@ -5,15 +5,15 @@ use borrow.Author.Needs.{needs}
 use Rattle.line.proofs.scan.next.Statement.{statement}
 use Rattle.line.proofs.scan.next.Tie as tie
 
-skip-requires : tie.Need-skip-requires
-skip-requires c κs = search needs
+seek-requires : tie.Need-seek-requires
+seek-requires c κs = search needs
 
-word-end-requires : tie.Need-word-end-requires
-word-end-requires c κs = search needs
+seek-requires-2 : tie.Need-seek-requires-2
+seek-requires-2 c κs = search needs
 
 returns : tie.Need-returns
 unfolding nextWord
 returns c = (cc, omega arith)
 
 pub next-spec : {M : Type 1} → statement M
-next-spec = tie.close (tie.spec skip-requires word-end-requires returns)
+next-spec = tie.close (tie.spec seek-requires seek-requires-2 returns)
