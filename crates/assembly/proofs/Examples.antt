@@ -1,7 +1,7 @@
 -- Lines of a text, and what is said of bad ones.
 use mathlib.Core.Path.{_≡_, refl}
 use mathlib.Core.List.{[], _∷_, map}
-use lib.ListN.{replicate}
+use lib.ListN.{length, replicate}
 use Rattle.search.specs.First.{first}
 use Rattle.alike.specs.Alike.{alike}
 use Rattle.bytes.specs.Bytes.{indexOf, indexAfter}
@@ -9,7 +9,7 @@ use Rattle.line.specs.Text.{bytes, isBlank, nextWord, trimmedEnd}
 use Rattle.line.specs.Number.{more, digits, number}
 use Rattle.line.specs.Line.{names, operationOf, request, counted, numbers, statement, readText}
 use Rattle.assembly.specs.Batch.{linesFrom, restFrom, lines, rest, messagesOf}
-use Rattle.assembly.specs.Message.{shownByte, shown, found, said, messageOf}
+use Rattle.assembly.specs.Message.{shownByte, shown, found, said, messageOf, expectedRoom, foundRoom}
 use Rattle.decimal.specs.Decimal.{decimalIn}
 
 two-lines : lines (bytes "place 5\n\nfree") ≡ bytes "place 5" ∷ [] ∷ []
@@ -35,3 +35,12 @@ words-shown : map (λ w. found (bytes w)) ("abcdefghijklmnopqrstuvwx" ∷ "abcde
     ≡ map bytes ("\"abcdefghijklmnopqrstuvwx\"\n" ∷ "\"abcdefghijklmnopqrstuvwx\"...\n" ∷ "\"a?b?c\"\n" ∷ "\"!a?~\"\n" ∷ "\"a?b\"\n" ∷ [])
 unfolding bytes found shown shownByte
 words-shown = refl
+
+-- the longest texts have their room and no more
+longest-expected : length (bytes ": expected place, free, measure, copy, text or counted, found ") ≡ expectedRoom
+unfolding bytes
+longest-expected = refl
+
+longest-found : length (found (replicate 25 65)) ≡ foundRoom
+unfolding bytes found shown shownByte
+longest-found = refl

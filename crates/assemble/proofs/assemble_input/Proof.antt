@@ -1,10 +1,12 @@
 -- The loop is safe, ends, and answers a status.
-use Prim.Native.Nat.{ℕ, _-_, _^_, _≤_, _<_}
+use Prim.Native.Nat.{ℕ, _-_, _*_, _^_, _≤_, _<_}
 use mathlib.Core.Path.{_≡_}
 use mathlib.Core.List.{List}
 use native.Mathlib.Omega.{arith}
 use lib.ListN.{length}
 use borrow.Rule.Slice.PartMut.{same-len-mid}
+use Rattle.line.specs.Line.{requestSize}
+use Rattle.assembly.specs.Message.{messageRoom}
 use Rattle.assembly.specs.Pieces.{longestStart}
 use Rattle.assemble.proofs.Statuses.{status-within}
 use Rattle.assemble.proofs.assemble_input.Statement.{statement}
@@ -13,8 +15,8 @@ use Rattle.assemble.proofs.assemble_input.Tie as tie
 -- the arrays keep their lengths, and what is kept of a line stays within
 record Kept (input out errors : List ℕ) (kept status turns : ℕ) : Type 0 where
   input-length : length input ≡ 2048
-  out-length : length out ≡ 32768
-  errors-length : length errors ≡ 239616
+  out-length : length out ≡ 2048 * requestSize
+  errors-length : length errors ≡ 2048 * messageRoom
   few : kept ≤ longestStart
   status-known : status ≤ 2
   some : turns < 2 ^ 64
