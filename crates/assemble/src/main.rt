@@ -17,7 +17,7 @@ const BAD_LINES: u8 = 1;
 
 const FAILED: u8 = 2;
 
-// How many bytes of the input are held at a time: the prover stops at arrays of more than 256 KiB, and each byte takes 117 of the errors.
+// How many bytes of the input are held at a time. Each has room for a message, and the prover stops at arrays of more than 256 KiB.
 const INPUT: usize = 2048;
 
 // Writes to standard output, and answers the status: which it is, the system decides.
