@@ -1,49 +1,130 @@
 // Turns lines of text from standard input into requests on standard output, and names each bad line on standard error.
+use arguments::Choice;
 use libc::STDERR_FILENO;
 use libc::STDIN_FILENO;
 use libc::STDOUT_FILENO;
 ghost use mathlib.Core.Path.{_≡_};
-ghost use mathlib.Core.Bool.{cond};
-ghost use Prim.Native.Nat.{_+_, _<_, _≤_};
-ghost use lib.Dec.{eqb};
+ghost use mathlib.Core.Logic.{_⊎_};
+ghost use Prim.Native.Nat.{_≤_};
+ghost use Rattle.assemble.specs.Status.{statusAfter};
 
-// Where a text ends of which `kept` bytes were there before and `got` were read. Where none were, the line end after it is its last byte.
-fn text_end(kept: usize, got: usize) -> usize
-    requires { ⌜ kept + got < 2048 ⌝ }
-    ensures { λ r. ⌜ (r ≡ cond (eqb got 0) (kept + 1) (kept + got)) × (r ≤ 2048) ⌝ }
+// Where the launcher reads the status (programs/launch.c).
+const STATUS_FILENO: i32 = 3;
+
+const DONE: u8 = 0;
+
+const BAD_LINES: u8 = 1;
+
+const FAILED: u8 = 2;
+
+// How many bytes of the input are held at a time. Each has room for a message, and the prover stops at arrays of more than 256 KiB.
+const INPUT: usize = 2048;
+
+// Writes to standard output, and answers the status: which it is, the system decides.
+fn print(text: &[u8]) -> u8
+    ensures { λ r. ⌜ (r ≡ 0) ⊎ (r ≡ 2) ⌝ }
 {
-    if got == 0 {
-        return kept + 1;
+    if io::write_all(STDOUT_FILENO, text) {
+        return DONE;
     }
-    kept + got
+    os::fail(b"assemble: standard output");
+    FAILED
+}
+
+// Writes requests and messages, and answers the status after them, or that an output cannot be written.
+fn answer(status: u8, requests: &[u8], messages: &[u8]) -> u8
+    ensures { λ r. ⌜ (r ≡ 2) ⊎ (r ≡ statusAfter status (now (messages .entry))) ⌝ }
+{
+    if print(requests) != DONE {
+        return FAILED;
+    }
+    if messages.len() == 0 {
+        return status;
+    }
+    if io::write_all(STDERR_FILENO, messages) {
+        return BAD_LINES;
+    }
+    FAILED
+}
+
+fn help() -> u8
+    ensures { λ r. ⌜ (r ≡ 0) ⊎ (r ≡ 2) ⌝ }
+{
+    print(
+        b"usage: assemble < LINES > REQUESTS\n\
+        \n\
+        Turns lines of text into requests of 16 bytes, as benchrun reads them.\n\
+        \n\
+        Input: lines of at most 255 bytes that end in LF or CR LF. A line has words with spaces or tabs around them:\n\
+        place SIZE, free OFFSET, measure OFFSET, copy OFFSET, text OFFSET or counted OFFSET COUNT, in decimal from 0\n\
+        to 4294967295. What comes after # is a comment; a line may be empty.\n\
+        Output: a request for each line that asks for one. Standard error: a message for each bad line.\n\
+        Exit status: 0 where all lines are good; 1 where a line is bad, and the good ones are written; 2 where an\n\
+        argument is unknown, the input cannot be read or an output cannot be written.\n",
+    )
+}
+
+// Reads standard input to its end, and answers the status: which it is, the system decides.
+fn assemble_input() -> u8
+    ensures { λ r. ⌜ r ≤ 2 ⌝ }
+{
+    let mut input = [0u8; INPUT];
+    let mut out = [0u8; INPUT * assembly::REQUEST];
+    let mut errors = [0u8; INPUT * assembly::MESSAGE];
+    let mut kept: usize = 0;
+    let mut number: u64 = 1;
+    let mut status = DONE;
+    // A proved loop ends: this one ends with the input, or after more reads than any input takes.
+    for _ in 0..u64::MAX {
+        let got = libc::read(STDIN_FILENO, &mut input[kept..]);
+        if got < 0 {
+            os::fail(b"assemble: standard input");
+            return FAILED;
+        }
+        let count = io::count(got, &input[kept..]);
+        let turn = assembly::assemble(&mut input, kept, count, number, &mut out, &mut errors);
+        let requests = turn.requests;
+        let messages = turn.messages;
+        status = answer(status, &out[0..requests], &errors[0..messages]);
+        if status == FAILED {
+            return status;
+        }
+        if got == 0 {
+            return status;
+        }
+        kept = turn.kept;
+        number = turn.next;
+    }
+    status
 }
 
 fn main() {
-    // The outputs have room for whatever lines the input holds: a request of 16 bytes and a message of 80 for each byte.
-    let mut input = [0u8; 2048];
-    let mut out = [0u8; 32768];
-    let mut errors = [0u8; 163840];
-    // The start of a line whose end is not read yet: one byte more than a line may have tells that it is too long.
-    let mut line = [0u8; 256];
-    let mut kept: usize = 0;
-    let mut number: u64 = 1;
-    // A proved loop ends: this one ends with the input, or after more turns than any input takes.
-    for _ in 0..u64::MAX {
-        bytes::copy(&line[0..kept], &mut input);
-        let got = io::read_full(STDIN_FILENO, &mut input[kept..2047]);
-        if kept + got == 0 {
-            return;
+    let mut first = [0u8; 16];
+    let mut second = [0u8; 16];
+    let first_len = os::arg(1, &mut first);
+    let second_len = os::arg(2, &mut second);
+    let asked = arguments::read(
+        os::arg_count(),
+        &first[0..first_len],
+        &second[0..second_len],
+    );
+    let choice = asked.choice;
+    let mut status = FAILED;
+    match choice {
+        Choice::Run => {
+            status = assemble_input();
         }
-        // The last line may lack its end.
-        input[kept + got] = b'\n';
-        let end = text_end(kept, got);
-        let done = assembly::assemble(&input[0..end], number, &mut out, &mut errors);
-        let used = done.used;
-        let requests = done.requests;
-        let messages = done.messages;
-        io::write_all(STDOUT_FILENO, &out[0..requests]);
-        io::write_all(STDERR_FILENO, &errors[0..messages]);
-        number = done.next;
-        kept = assembly::keep(&input[used..end], &mut line);
+        Choice::Help => {
+            status = help();
+        }
+        Choice::Unknown => {
+            io::write_all(STDERR_FILENO, b"assemble: unknown argument; see --help\n");
+        }
+    }
+    if status == DONE {
+        return;
+    }
+    if asked.launched {
+        io::print_decimal(STATUS_FILENO, status as u64);
     }
 }

@@ -2,15 +2,18 @@
 use Prim.Native.Nat.{ℕ, _+_, _-_, _*_, _^_, _≤_, _<_}
 use native.Mathlib.Omega.{arith}
 use mathlib.Core.Path.{_≡_, refl, sym, _∙_}
+use mathlib.Core.Bool.{true}
 use mathlib.Core.List.{List, [], _++_, append-assoc, append-nil}
 use lib.ListN.{length, take, drop, length-append, length-drop}
 use Rattle.bytes.specs.Bytes.{slice, indexOf}
 use Rattle.writing.specs.Overwrite.{overwrite}
 use Rattle.line.specs.Line.{readLine, requestOf, requestSize}
 use Rattle.assembly.specs.Message.{messageOf, messageRoom}
-use Rattle.assembly.specs.Batch.{newline, lines, rest, used, requestsOf, messagesOf}
+use Rattle.assembly.specs.Batch.{newline, lines, rest, used, requestsOf, messagesOf, requestsIn, messagesIn, doneOf, fits}
+use Rattle.assembly.specs.declared.Done.{Done}
 use Rattle.line.specs.declared.Line.{Line}
 use Rattle.writing.proofs.Writing.{Wrote, wrote-then, wrote-length}
+use Rattle.assembly.proofs.Room.{room-known}
 use Rattle.assembly.proofs.Splitting.{line-found, rest-found, no-line, no-more}
 
 -- the lines before `at` are read, and their requests and messages written; the next line has the number `next` and ends at `end`
@@ -35,10 +38,11 @@ pub record Assembled (input : List ℕ) (number : ℕ) (out₀ errors₀ out err
 
 module _ {input : List ℕ} {number : ℕ} {out₀ errors₀ : List ℕ} where
   -- nothing is read yet
-  pub assembled-none : {end : ℕ} → length input * requestSize ≤ length out₀ → length input * messageRoom ≤ length errors₀ → number + length input < 2 ^ 64
+  pub assembled-none : {end : ℕ} → fits (length input) number (length out₀) (length errors₀) ≡ true
       → end ≡ 0 + indexOf newline (slice 0 (length input) input) → end ≤ length input
       → Assembled input number out₀ errors₀ out₀ errors₀ 0 number 0 0 end
-  assembled-none r m n f w =
+  assembled-none room f w =
+      let (r, m, n) = room-known (length input) number (length out₀) (length errors₀) room in
       record {
         requests = [];
         messages = [];
@@ -64,30 +68,31 @@ module _ {input : List ℕ} {number : ℕ} {out₀ errors₀ : List ℕ} where
     start = let f = p .found in omega arith
 
     -- one line more is read
-    pub assembled-more : end < length input → {line : Line} {r m last : ℕ} {out₁ errors₁ : List ℕ} → line ≡ readLine (take (end - at) (drop at input))
+    pub assembled-more : end < length input → {text : List ℕ} {line : Line} {r m last : ℕ} {out₁ errors₁ : List ℕ}
+        → text ≡ take (end - at) (drop at input) → line ≡ readLine text
         → r ≡ filled + length (requestOf line) → r ≤ filled + requestSize → out₁ ≡ overwrite out filled (requestOf line)
-        → m ≡ said + length (messageOf next line) → m ≤ said + messageRoom → errors₁ ≡ overwrite errors said (messageOf next line)
+        → m ≡ said + length (messageOf next text line) → m ≤ said + messageRoom → errors₁ ≡ overwrite errors said (messageOf next text line)
         → last ≡ end + 1 + indexOf newline (slice (end + 1) (length input) input) → last ≤ length input
         → Assembled input number out₀ errors₀ out₁ errors₁ (end + 1) (next + 1) r m last
     unfolding requestsOf messagesOf
-    assembled-more some {line} e size small bytes size' small' bytes' f w =
+    assembled-more some {text} {line} t e size small bytes size' small' bytes' f w =
         let split = line-found input at end (p .found) start some in
         let from : at ≤ end = start in
         let one : Wrote out _ filled (requestOf line) = record { bytes = bytes; room = omega arith } in
-        let other : Wrote errors _ said (messageOf next line) = record { bytes = bytes'; room = omega arith } in
+        let other : Wrote errors _ said (messageOf next text line) = record { bytes = bytes'; room = omega arith } in
         let all = wrote-then (p .requests-wrote) one (omega (arith, p .requests-size)) in
         let all' = wrote-then (p .messages-wrote) other (omega (arith, p .messages-size)) in
         let kept = wrote-length all in
         let kept' = wrote-length all' in
         record {
           requests = p .requests ++ requestOf line;
-          messages = p .messages ++ messageOf next line;
+          messages = p .messages ++ messageOf next text line;
           requests-wrote = all;
           messages-wrote = all';
           requests-size = rw (length-append, size, p .requests-size);
           messages-size = rw (length-append, size', p .messages-size);
-          requests-rest = p .requests-rest ∙ rw (split, e) (sym (append-assoc (p .requests) _ _));
-          messages-rest = p .messages-rest ∙ rw (split, e) (sym (append-assoc (p .messages) _ _));
+          requests-rest = p .requests-rest ∙ rw (split, e, t) (sym (append-assoc (p .requests) _ _));
+          messages-rest = p .messages-rest ∙ rw (split, e, t) (sym (append-assoc (p .messages) _ _));
           lines-rest = p .lines-rest ∙ rw split (omega arith);
           text-rest = p .text-rest ∙ rest-found input at end (p .found) start some;
           found = f;
@@ -101,20 +106,20 @@ module _ {input : List ℕ} {number : ℕ} {out₀ errors₀ : List ℕ} where
 
     -- all lines are read
     module _ (none : length input ≤ end) where
-      pub all-requests : requestsOf (lines input) ≡ p .requests
+      pub all-requests : requestsIn input ≡ p .requests
       unfolding requestsOf
       all-requests = p .requests-rest ∙ rw (no-line input at end (p .found) none) (append-nil (p .requests))
 
-      pub all-messages : messagesOf number (lines input) ≡ p .messages
+      pub all-messages : messagesIn number input ≡ p .messages
       unfolding messagesOf
       all-messages = p .messages-rest ∙ rw (no-line input at end (p .found) none) (append-nil (p .messages))
 
-      pub all-lines : next ≡ number + length (lines input)
-      all-lines = sym (p .lines-rest ∙ rw (no-line input at end (p .found) none) (omega arith))
-
-      pub all-used : at ≡ used input
-      all-used =
+      pub all-done : _≡_ {A = Done} (record { used = at; next = next; requests = filled; messages = said }) (doneOf number input)
+      unfolding doneOf
+      all-done =
           let left : length (rest input) ≡ length input - at = rw (p .text-rest, no-more input at end (p .found) none) (length-drop at input) in
           let from : at ≤ end = start in
           let w = p .within in
-          omega arith
+          let read : at ≡ used input = omega arith in
+          let after : next ≡ number + length (lines input) = sym (p .lines-rest ∙ rw (no-line input at end (p .found) none) (omega arith)) in
+          rw (all-requests, all-messages, ← p .requests-size, ← p .messages-size, ← after, ← read)

@@ -4,15 +4,16 @@ use native.Mathlib.Decide.{decLt}
 use native.Mathlib.Omega.{arith}
 use mathlib.Core.Path.{_≡_, refl, sym, ap, _∙_}
 use mathlib.Core.Bool.{Bool, true, false}
-use mathlib.Core.List.{List, [], _∷_, _++_, append-assoc, append-nil, map}
+use mathlib.Core.List.{List, [], _∷_, _++_, append-assoc, append-nil, map, map-append}
 use lib.ListN.{length, take, drop, length-append, length-take, take-append-drop}
 use lib.Seq.{take-all}
 use lib.Dec.{eqb}
-use Rattle.line.specs.Line.{readLine, requestOf}
+use Rattle.line.specs.Line.{longestLine, readLine, requestOf}
 use Rattle.assembly.specs.Message.{messageOf}
 use Rattle.assembly.specs.Batch.{newline, linesFrom, restFrom, lines, rest, requestsOf, messagesOf}
 use Rattle.assembly.specs.Pieces.{longestStart, whole, linesIn}
 use Rattle.line.specs.declared.Line.{Line}
+use Rattle.line.specs.declared.Line.the-variants.{TooLong}
 use Rattle.line.proofs.Reading.{long-line}
 use Rattle.assembly.proofs.Splitting.{lines-end, lines-byte, rest-end, rest-byte}
 
@@ -86,89 +87,89 @@ start-open n line h =
     let split : lines (take n line ++ drop n line) ≡ [] = rw (take-append-drop n line) h in
     first-none (lines (take n line)) (linesFrom (rest (take n line)) (drop n line)) (sym (lines-append (drop n line) (take n line) []) ∙ split)
 
--- one text stands for another as the start of a line: with the same bytes after them they are read alike
-record Alike (a b : List ℕ) : Type 0 where
-  alike : (v : List ℕ) → readLine (a ++ v) ≡ readLine (b ++ v)
+-- something that is told of each line by its bytes and how it is read; where it is too long, not by its bytes
+module _ {A : Type 0} (tell : List ℕ → Line → A) (blind : (a b : List ℕ) → tell a TooLong ≡ tell b TooLong) where
+  abbrev told : List ℕ → A
+  told line = tell line (readLine line)
 
-alike-trans : {a b c : List ℕ} → Alike a b → Alike b c → Alike a c
-alike-trans s t = record { alike = λ v. s .alike v ∙ t .alike v }
+  -- the start that is kept tells that a line is too long
+  enough : (line v : List ℕ) → told (take longestStart line ++ v) ≡ told (line ++ v)
+  enough line v = go (decLt longestStart (length line))
+    where
+      go : Dec (longestStart < length line) → told (take longestStart line ++ v) ≡ told (line ++ v)
+      go (yes h) =
+          let short : longestLine + 1 < length (take longestStart line ++ v) = rw (length-append, length-take) (omega arith) in
+          let long : longestLine + 1 < length (line ++ v) = rw length-append (omega arith) in
+          rw (← long-line (take longestStart line ++ v) short, ← long-line (line ++ v) long) (blind (take longestStart line ++ v) (line ++ v))
+      go (no h) = rw (take-all longestStart line (omega arith))
 
-alike-byte : {a b : List ℕ} → Alike a b → (x : ℕ) → Alike (a ++ (x ∷ [])) (b ++ (x ∷ []))
-alike-byte {a} {b} s x = record { alike = λ v. rw (append-assoc a (x ∷ []) v, append-assoc b (x ∷ []) v) (s .alike (x ∷ v)) }
+  -- one text stands for another as the start of a line
+  record Alike (a b : List ℕ) : Type 0 where
+    alike : (v : List ℕ) → told (a ++ v) ≡ told (b ++ v)
 
-alike-lines : (text : List ℕ) {a b : List ℕ} → Alike a b → map readLine (linesFrom a text) ≡ map readLine (linesFrom b text)
-unfolding linesFrom
-alike-lines [] s = refl
-alike-lines (x ∷ text) {a} {b} s = go (alike-lines text (alike-byte s x)) (eqb x newline) refl
-  where
-    go : map readLine (linesFrom (a ++ (x ∷ [])) text) ≡ map readLine (linesFrom (b ++ (x ∷ [])) text)
-        → (t : Bool) → eqb x newline ≡ t → map readLine (linesFrom a (x ∷ text)) ≡ map readLine (linesFrom b (x ∷ text))
-    go f true e =
-        let here : readLine a ≡ readLine b = rw (append-nil a, append-nil b) at (s .alike []) in
-        rw (lines-end a x text e, lines-end b x text e, here)
-    go f false e = rw (lines-byte a x text e, lines-byte b x text e) f
+  alike-byte : {a b : List ℕ} → Alike a b → (x : ℕ) → Alike (a ++ (x ∷ [])) (b ++ (x ∷ []))
+  alike-byte {a} {b} s x = record { alike = λ v. rw (append-assoc a (x ∷ []) v, append-assoc b (x ∷ []) v) (s .alike (x ∷ v)) }
 
-alike-rest : (text : List ℕ) {a b : List ℕ} → Alike a b → Alike (restFrom a text) (restFrom b text)
-unfolding restFrom
-alike-rest [] s = s
-alike-rest (x ∷ text) {a} {b} s = go (alike-rest text (alike-byte s x)) (eqb x newline) refl
-  where
-    go : Alike (restFrom (a ++ (x ∷ [])) text) (restFrom (b ++ (x ∷ [])) text) → (t : Bool) → eqb x newline ≡ t → Alike (restFrom a (x ∷ text)) (restFrom b (x ∷ text))
-    go f true e = rw (rest-end a x text e, rest-end b x text e) record { alike = λ v. refl }
-    go f false e = rw (rest-byte a x text e, rest-byte b x text e) f
+  alike-lines : (text : List ℕ) {a b : List ℕ} → Alike a b → map told (linesFrom a text) ≡ map told (linesFrom b text)
+  unfolding linesFrom
+  alike-lines [] s = refl
+  alike-lines (x ∷ text) {a} {b} s = go (alike-lines text (alike-byte s x)) (eqb x newline) refl
+    where
+      go : map told (linesFrom (a ++ (x ∷ [])) text) ≡ map told (linesFrom (b ++ (x ∷ [])) text)
+          → (t : Bool) → eqb x newline ≡ t → map told (linesFrom a (x ∷ text)) ≡ map told (linesFrom b (x ∷ text))
+      go g true e =
+          let here : told a ≡ told b = rw (append-nil a, append-nil b) at (s .alike []) in
+          rw (lines-end a x text e, lines-end b x text e, here)
+      go g false e = rw (lines-byte a x text e, lines-byte b x text e) g
 
--- the bytes that are kept stand for the line
-alike-start : (line : List ℕ) → Alike (take longestStart line) line
-alike-start line = record { alike = λ v. go v (decLt longestStart (length line)) }
-  where
-    go : (v : List ℕ) → Dec (longestStart < length line) → readLine (take longestStart line ++ v) ≡ readLine (line ++ v)
-    go v (yes h) =
-        let short : 255 < length (take longestStart line ++ v) = rw (length-append, length-take) (omega arith) in
-        let long : 255 < length (line ++ v) = rw length-append (omega arith) in
-        sym (long-line (take longestStart line ++ v) short) ∙ long-line (line ++ v) long
-    go v (no h) = rw (take-all longestStart line (omega arith))
+  alike-rest : (text : List ℕ) {a b : List ℕ} → Alike a b → Alike (restFrom a text) (restFrom b text)
+  unfolding restFrom
+  alike-rest [] s = s
+  alike-rest (x ∷ text) {a} {b} s = go (alike-rest text (alike-byte s x)) (eqb x newline) refl
+    where
+      go : Alike (restFrom (a ++ (x ∷ [])) text) (restFrom (b ++ (x ∷ [])) text) → (t : Bool) → eqb x newline ≡ t → Alike (restFrom a (x ∷ text)) (restFrom b (x ∷ text))
+      go g true e = rw (rest-end a x text e, rest-end b x text e) record { alike = λ v. refl }
+      go g false e = rw (rest-byte a x text e, rest-byte b x text e) g
 
-map-append : (a b : List (List ℕ)) → map readLine (a ++ b) ≡ map readLine a ++ map readLine b
-map-append [] b = refl
-map-append (x ∷ a) b = rw (map-append a b)
+  alike-start : {a b : List ℕ} → Alike a b → Alike (take longestStart a) b
+  alike-start {a} s = record { alike = λ v. enough a v ∙ s .alike v }
 
-read-in : (pieces : List (List ℕ)) (kept : List ℕ) {line : List ℕ} → lines kept ≡ [] → Alike kept line
-    → map readLine (linesIn kept pieces) ≡ map readLine (linesFrom line (whole pieces))
-unfolding linesIn whole linesFrom
-read-in [] kept none s = refl
-read-in (piece ∷ more) kept {line} none s =
-    let next : List ℕ = take longestStart (restFrom kept piece) in
-    let later : map readLine (linesIn next more) ≡ map readLine (linesFrom (restFrom line piece) (whole more)) =
-    read-in more next (start-open longestStart (restFrom kept piece) (rest-open piece kept none))
-    (alike-trans (alike-start (restFrom kept piece)) (alike-rest piece s)) in
-    rw (
-      resumed-lines kept piece none,
-      resumed-rest kept piece none,
-      lines-append (whole more) piece line,
-      map-append (linesFrom kept piece) (linesIn next more),
-      map-append (linesFrom line piece) (linesFrom (restFrom line piece) (whole more)),
-      alike-lines piece s,
-      later,
-    )
+  read-in : (pieces : List (List ℕ)) (kept : List ℕ) {line : List ℕ} → lines kept ≡ [] → Alike kept line
+      → map told (linesIn kept pieces) ≡ map told (linesFrom line (whole pieces))
+  unfolding linesIn whole linesFrom
+  read-in [] kept none s = refl
+  read-in (piece ∷ more) kept {line} none s =
+      let next : List ℕ = take longestStart (restFrom kept piece) in
+      let later : map told (linesIn next more) ≡ map told (linesFrom (restFrom line piece) (whole more)) =
+      read-in more next (start-open longestStart (restFrom kept piece) (rest-open piece kept none)) (alike-start (alike-rest piece s)) in
+      rw (
+        resumed-lines kept piece none,
+        resumed-rest kept piece none,
+        map-append,
+        lines-append (whole more) piece line,
+        map-append,
+        alike-lines piece s,
+        later,
+      )
 
--- what is written depends on how lines are read alone
-requests-read : List Line → List ℕ
-requests-read [] = []
-requests-read (line ∷ more) = requestOf line ++ requests-read more
+  told-however-cut : (pieces : List (List ℕ)) → map told (linesIn [] pieces) ≡ map told (lines (whole pieces))
+  unfolding linesFrom
+  told-however-cut pieces = read-in pieces [] refl (record { alike = λ v. refl })
 
-messages-read : ℕ → List Line → List ℕ
-messages-read number [] = []
-messages-read number (line ∷ more) = messageOf number line ++ messages-read (number + 1) more
+-- requests and messages, from what is told of each line
+requests-told : (xs : List (List ℕ)) → requestsOf xs ≡ whole (map (λ line. requestOf (readLine line)) xs)
+unfolding requestsOf whole
+requests-told [] = refl
+requests-told (x ∷ xs) = rw (requests-told xs)
 
-requests-of : (xs : List (List ℕ)) → requestsOf xs ≡ requests-read (map readLine xs)
-unfolding requestsOf requests-read
-requests-of [] = refl
-requests-of (x ∷ xs) = rw (requests-of xs)
+numbered : ℕ → List (ℕ → List ℕ) → List ℕ
+numbered number [] = []
+numbered number (say ∷ more) = say number ++ numbered (number + 1) more
 
-messages-of : (xs : List (List ℕ)) (number : ℕ) → messagesOf number xs ≡ messages-read number (map readLine xs)
-unfolding messagesOf messages-read
-messages-of [] number = refl
-messages-of (x ∷ xs) number = rw (messages-of xs (number + 1))
+messages-told : (xs : List (List ℕ)) (number : ℕ) → messagesOf number xs ≡ numbered number (map (λ line k. messageOf k line (readLine line)) xs)
+unfolding messagesOf numbered
+messages-told [] number = refl
+messages-told (x ∷ xs) number = rw (messages-told xs (number + 1))
 
 -- parts of the lines, one after another, come to what all come to
 pub requests-parts : (a b : List (List ℕ)) → requestsOf (a ++ b) ≡ requestsOf a ++ requestsOf b
@@ -183,17 +184,17 @@ messages-parts [] b number =
     rw none
 messages-parts (x ∷ a) b number =
     let more : number + 1 + length a ≡ number + length (x ∷ a) = omega arith in
-    rw (messages-parts a b (number + 1), more) (sym (append-assoc (messageOf number (readLine x)) (messagesOf (number + 1) a) (messagesOf (number + length (x ∷ a)) b)))
+    rw (messages-parts a b (number + 1), more) (sym (append-assoc (messageOf number x (readLine x)) (messagesOf (number + 1) a) (messagesOf (number + length (x ∷ a)) b)))
 
 -- however an input is cut, its requests and messages are those of the whole
 module _ (pieces : List (List ℕ)) where
-  alike-read : map readLine (linesIn [] pieces) ≡ map readLine (lines (whole pieces))
-  unfolding linesFrom
-  alike-read = read-in pieces [] refl (record { alike = λ v. refl })
-
   pub requests-however-cut : requestsOf (linesIn [] pieces) ≡ requestsOf (lines (whole pieces))
-  requests-however-cut = requests-of (linesIn [] pieces) ∙ ap requests-read alike-read ∙ sym (requests-of (lines (whole pieces)))
+  requests-however-cut =
+      requests-told (linesIn [] pieces) ∙ ap whole (told-however-cut (λ line read. requestOf read) (λ a b. refl) pieces) ∙ sym (requests-told (lines (whole pieces)))
 
   pub messages-however-cut : (number : ℕ) → messagesOf number (linesIn [] pieces) ≡ messagesOf number (lines (whole pieces))
+  unfolding messageOf
   messages-however-cut number =
-      messages-of (linesIn [] pieces) number ∙ ap (messages-read number) alike-read ∙ sym (messages-of (lines (whole pieces)) number)
+      messages-told (linesIn [] pieces) number
+      ∙ ap (numbered number) (told-however-cut (λ line read k. messageOf k line read) (λ a b. refl) pieces)
+      ∙ sym (messages-told (lines (whole pieces)) number)

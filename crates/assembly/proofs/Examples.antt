@@ -1,13 +1,15 @@
--- Lines of a text, and what is said of a bad one.
+-- Lines of a text, and what is said of bad ones.
 use mathlib.Core.Path.{_≡_, refl}
-use mathlib.Core.List.{[], _∷_}
+use mathlib.Core.List.{[], _∷_, map}
+use lib.ListN.{length, replicate}
 use Rattle.search.specs.First.{first}
 use Rattle.alike.specs.Alike.{alike}
-use Rattle.line.specs.Text.{bytes, word, wordEnd}
+use Rattle.bytes.specs.Bytes.{indexOf, indexAfter}
+use Rattle.line.specs.Text.{bytes, isBlank, nextWord, trimmedEnd}
 use Rattle.line.specs.Number.{more, digits, number}
-use Rattle.line.specs.Line.{names, operationOf, request, numbers, statement, readLine}
+use Rattle.line.specs.Line.{names, operationOf, request, counted, numbers, statement, readText}
 use Rattle.assembly.specs.Batch.{linesFrom, restFrom, lines, rest, messagesOf}
-use Rattle.assembly.specs.Message.{said, messageOf}
+use Rattle.assembly.specs.Message.{shownByte, shown, found, said, messageOf, expectedRoom, foundRoom}
 use Rattle.decimal.specs.Decimal.{decimalIn}
 
 two-lines : lines (bytes "place 5\n\nfree") ≡ bytes "place 5" ∷ [] ∷ []
@@ -18,6 +20,27 @@ unfinished-line : rest (bytes "place 5\n\nfree") ≡ bytes "free"
 unfolding bytes restFrom
 unfinished-line = refl
 
-bad-line-named : messagesOf 9 (bytes "place 5" ∷ bytes "text" ∷ []) ≡ bytes "line 10: expected a number from 0 to 4294967295\n"
-unfolding bytes first alike names operationOf word wordEnd more digits number request numbers statement readLine messagesOf messageOf said decimalIn
-bad-line-named = refl
+-- a message for each kind of bad line
+bad-lines-named : messagesOf 9 (map bytes ("place 5" ∷ "placed 5" ∷ "text # 5" ∷ "free\t4294967296\r" ∷ "copy 1 two" ∷ []))
+    ≡ bytes "line 10: expected place, free, measure, copy, text or counted, found \"placed\"\nline 11: expected a number from 0 to 4294967295, found the end of the line\nline 12: expected a number from 0 to 4294967295, found \"4294967296\"\nline 13: expected nothing after the numbers, found \"two\"\n"
+unfolding bytes first alike indexOf indexAfter isBlank nextWord trimmedEnd more digits number names operationOf request counted numbers statement readText messagesOf messageOf found shown shownByte said decimalIn
+bad-lines-named = refl
+
+long-line-named : messagesOf 1 (replicate 256 32 ∷ []) ≡ bytes "line 1: expected at most 255 bytes, found more\n"
+unfolding bytes trimmedEnd readText messagesOf messageOf said decimalIn
+long-line-named = refl
+
+-- 24 bytes of a word are shown; a longer one has dots, and a byte that is not printable is a question mark
+words-shown : map (λ w. found (bytes w)) ("abcdefghijklmnopqrstuvwx" ∷ "abcdefghijklmnopqrstuvwxy" ∷ "a\rb\u{1b}c" ∷ "!aÿ~" ∷ "a\u{7f}b" ∷ [])
+    ≡ map bytes ("\"abcdefghijklmnopqrstuvwx\"\n" ∷ "\"abcdefghijklmnopqrstuvwx\"...\n" ∷ "\"a?b?c\"\n" ∷ "\"!a?~\"\n" ∷ "\"a?b\"\n" ∷ [])
+unfolding bytes found shown shownByte
+words-shown = refl
+
+-- the longest texts have their room and no more
+longest-expected : length (bytes ": expected place, free, measure, copy, text or counted, found ") ≡ expectedRoom
+unfolding bytes
+longest-expected = refl
+
+longest-found : length (found (replicate 25 65)) ≡ foundRoom
+unfolding bytes found shown shownByte
+longest-found = refl

@@ -1,5 +1,9 @@
 pub mod Examples
 pub mod Room
 pub mod Splitting
+pub mod Putting
+pub mod Gathering
 pub mod Assembled
+pub mod Turning
+pub mod Turns
 pub mod Cutting

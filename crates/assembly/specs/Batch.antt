@@ -6,6 +6,7 @@ use lib.ListN.{length}
 use lib.Dec.{leb, ltb, eqb}
 use Rattle.line.specs.Line.{readLine, requestOf, requestSize}
 use Rattle.assembly.specs.Message.{messageOf, messageRoom}
+use Rattle.assembly.specs.declared.Done.{Done}
 
 abbrev pub newline : ℕ
 newline = 10
@@ -37,15 +38,29 @@ requestsOf (line ∷ more) = requestOf (readLine line) ++ requestsOf more
 -- what is said of lines, numbered from a number on
 unfoldable pub messagesOf : ℕ → List (List ℕ) → List ℕ
 messagesOf number [] = []
-messagesOf number (line ∷ more) = messageOf number (readLine line) ++ messagesOf (number + 1) more
+messagesOf number (line ∷ more) = messageOf number line (readLine line) ++ messagesOf (number + 1) more
+
+-- what the lines of a text come to
+abbrev pub requestsIn : List ℕ → List ℕ
+requestsIn text = requestsOf (lines text)
+
+abbrev pub messagesIn : ℕ → List ℕ → List ℕ
+messagesIn number text = messagesOf number (lines text)
+
+-- how much of a text is read and written, and the number of the line after it
+unfoldable pub doneOf : ℕ → List ℕ → Done
+doneOf number text =
+    record {
+      used = used text;
+      next = number + length (lines text);
+      requests = length (requestsIn text);
+      messages = length (messagesIn number text);
+    }
 
 -- whether there is room for what n bytes of lines come to, and for the lines' numbers in 64 bits
 abbrev pub fits : ℕ → ℕ → ℕ → ℕ → Bool
 fits n number out errors = leb (n * requestSize) out && (leb (n * messageRoom) errors && ltb (number + n) (2 ^ 64))
 
--- what is read of an input: all, or nothing where there may be no room; and its lines
-abbrev pub taken : List ℕ → ℕ → ℕ → ℕ → List ℕ
-taken input number out errors = cond (fits (length input) number out errors) input []
-
-abbrev pub linesTaken : List ℕ → ℕ → ℕ → ℕ → List (List ℕ)
-linesTaken input number out errors = lines (taken input number out errors)
+-- what is read of a text: all, or nothing where there may be no room
+unfoldable pub taken : List ℕ → ℕ → ℕ → ℕ → List ℕ
+taken text number out errors = cond (fits (length text) number out errors) text []

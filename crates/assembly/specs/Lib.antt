@@ -1,3 +1,4 @@
 pub mod Message
 pub mod Batch
 pub mod Pieces
+pub mod Turn

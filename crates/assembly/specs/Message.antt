@@ -1,28 +1,55 @@
 -- What is said of a bad line.
 use Prim.Native.Nat.{ℕ, _+_}
-use mathlib.Core.List.{List, [], _++_}
+use mathlib.Core.Bool.{_&&_, cond}
+use mathlib.Core.List.{List, [], _++_, map}
+use lib.ListN.{length, take}
+use lib.Dec.{leb, eqb}
 use Rattle.decimal.specs.Decimal.{width, decimal}
-use Rattle.line.specs.Text.{bytes}
+use Rattle.line.specs.Text.{bytes, wordAt}
+use Rattle.line.specs.declared.Word.{Word}
 use Rattle.line.specs.declared.Line.{Line}
 use Rattle.line.specs.declared.Line.the-variants.{Request, Nothing, BadOperation, BadNumber, TrailingText, TooLong}
+
+-- how many bytes of a word are shown
+abbrev pub shownMost : ℕ
+shownMost = 24
+
+-- a byte as it is shown: printable ASCII as it is, and a question mark for any other
+unfoldable pub shownByte : ℕ → ℕ
+shownByte b = cond (leb 33 b && leb b 126) b 63
+
+-- a word between quotes; dots after them say that it is longer
+unfoldable pub shown : List ℕ → List ℕ
+shown word =
+    bytes "\"" ++ (map shownByte (take shownMost word) ++ cond (leb (length word) shownMost) (bytes "\"\n") (bytes "\"...\n"))
+
+-- what stands where something else was expected
+unfoldable pub found : List ℕ → List ℕ
+found word = cond (eqb (length word) 0) (bytes "the end of the line\n") (shown word)
 
 -- a text that is said of the line with a number
 unfoldable pub said : ℕ → List ℕ → List ℕ
 said number text = bytes "line " ++ (decimal number ++ text)
 
--- what the line with a number should have been; nothing where it is no bad line
-unfoldable pub messageOf : ℕ → Line → List ℕ
-messageOf number (Request operation argument count) = []
-messageOf number Nothing = []
-messageOf number BadOperation = said number (bytes ": expected place, free, measure, copy, text or counted\n")
-messageOf number BadNumber = said number (bytes ": expected a number from 0 to 4294967295\n")
-messageOf number TrailingText = said number (bytes ": expected nothing after the numbers\n")
-messageOf number TooLong = said number (bytes ": expected at most 255 bytes\n")
+-- what was expected in the line with a number, up to `found`, and the word that stands there
+abbrev pub saidFound : ℕ → List ℕ → List ℕ → Word → List ℕ
+saidFound number expected line w = said number (expected ++ found (wordAt line w))
 
--- the length of the longest of these texts
-abbrev pub longest : ℕ
-longest = 55
+-- what the line with a number should have been, and what it is; nothing where it is no bad line
+unfoldable pub messageOf : ℕ → List ℕ → Line → List ℕ
+messageOf number line (Request operation argument count) = []
+messageOf number line Nothing = []
+messageOf number line (BadOperation w) = saidFound number (bytes ": expected place, free, measure, copy, text or counted, found ") line w
+messageOf number line (BadNumber w) = saidFound number (bytes ": expected a number from 0 to 4294967295, found ") line w
+messageOf number line (TrailingText w) = saidFound number (bytes ": expected nothing after the numbers, found ") line w
+messageOf number line TooLong = said number (bytes ": expected at most 255 bytes, found more\n")
 
--- room for any message
+-- the lengths of the longest text up to `found`, of what is found, and of a message: room for any
+abbrev pub expectedRoom : ℕ
+expectedRoom = 62
+
+abbrev pub foundRoom : ℕ
+foundRoom = 1 + (shownMost + 5)
+
 abbrev pub messageRoom : ℕ
-messageRoom = 5 + (width + longest)
+messageRoom = 5 + (width + (expectedRoom + foundRoom))

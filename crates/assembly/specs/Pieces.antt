@@ -9,11 +9,15 @@ unfoldable pub whole : List (List ℕ) → List ℕ
 whole [] = []
 whole (piece ∷ more) = piece ++ whole more
 
--- one byte more than a line may have
+-- one byte more than a line may have, and a carriage return
 abbrev pub longestStart : ℕ
-longestStart = 256
+longestStart = 257
 
--- the lines that are read where the start of an unfinished line is kept, as far as it tells that the line is too long, and put before the next piece
+-- the start of an unfinished line, as far as it tells that the line is too long
+abbrev pub startOf : List ℕ → List ℕ
+startOf text = take longestStart (rest text)
+
+-- the lines that are read where this start is kept and put before the next piece
 unfoldable pub linesIn : List ℕ → List (List ℕ) → List (List ℕ)
 linesIn kept [] = []
-linesIn kept (piece ∷ more) = lines (kept ++ piece) ++ linesIn (take longestStart (rest (kept ++ piece))) more
+linesIn kept (piece ∷ more) = lines (kept ++ piece) ++ linesIn (startOf (kept ++ piece)) more

@@ -2,23 +2,35 @@
 mod output;
 
 ghost use mathlib.Core.Path.{_≡_};
-ghost use Prim.Native.Nat.{_+_, _*_, _^_, _<_, _≤_, min};
-ghost use lib.ListN.{length, take};
+ghost use mathlib.Core.Bool.{true};
+ghost use Prim.Native.Nat.{_-_, _≤_, min};
+ghost use lib.ListN.{length, take, drop};
 ghost use Rattle.writing.specs.Overwrite.{overwrite};
-ghost use Rattle.line.specs.Line.{requestSize};
-ghost use Rattle.assembly.specs.Message.{messageRoom};
-ghost use Rattle.assembly.specs.Batch.{lines, used, requestsOf, messagesOf, fits, taken, linesTaken};
+ghost use Rattle.assembly.specs.Batch.{requestsIn, messagesIn, doneOf, fits};
+ghost use Rattle.assembly.specs.Pieces.{longestStart};
+ghost use Rattle.assembly.specs.Turn.{gathered, textEnd, outcome};
 
-const REQUEST: usize = 16;
+// Room for a request, and for any message.
+pub const REQUEST: usize = 16;
 
-// Room for any message.
-const MESSAGE: usize = 80;
+pub const MESSAGE: usize = 117;
+
+// One byte more than a line may have, and a carriage return.
+const START: usize = 257;
 
 const NEWLINE: u8 = b'\n';
 
 // How much of an input is read, the number of the line after it, and how many bytes of requests and of messages are written.
-pub struct Done {
-    pub used: usize,
+struct Done {
+    used: usize,
+    next: u64,
+    requests: usize,
+    messages: usize,
+}
+
+// How many bytes are kept of a line whose end is not read yet, the number of that line, and how many bytes of requests and of messages are written.
+pub struct Turn {
+    pub kept: usize,
     pub next: u64,
     pub requests: usize,
     pub messages: usize,
@@ -39,14 +51,14 @@ fn fits(len: usize, number: u64, out: usize, errors: usize) -> bool
     true
 }
 
-// No line takes less than a byte, so there is room for all.
-fn assemble_all(input: &[u8], number: u64, out: &mut [u8], errors: &mut [u8]) -> Done
-    requires { ⌜ (length (now input) * requestSize ≤ length (now out)) × (length (now input) * messageRoom ≤ length (now errors)) × (number + length (now input) < 2 ^ 64) ⌝ }
-    ensures { λ r. ⌜ (r .used ≡ used (now (input .entry))) × (r .next ≡ number + length (lines (now (input .entry)))) ⌝ }
-    ensures { λ r. ⌜ (r .requests ≡ length (requestsOf (lines (now (input .entry))))) × (r .messages ≡ length (messagesOf number (lines (now (input .entry))))) ⌝ }
-    ensures { λ r. ⌜ (r .used ≤ length (now (input .entry))) × (r .requests ≤ length (now (out .exit))) × (r .messages ≤ length (now (errors .exit))) ⌝ }
-    ensures { λ _. ⌜ now (out .exit) ≡ overwrite (now (out .entry)) 0 (requestsOf (lines (now (input .entry)))) ⌝ }
-    ensures { λ _. ⌜ now (errors .exit) ≡ overwrite (now (errors .entry)) 0 (messagesOf number (lines (now (input .entry)))) ⌝ }
+// Reads every line of the input that has its end, writes the requests that they ask for at the front of the output, and at the front of the errors
+// what bad lines should have been. No line takes less than a byte, so there is room for all.
+fn assemble_lines(input: &[u8], number: u64, out: &mut [u8], errors: &mut [u8]) -> Done
+    requires { ⌜ fits (length (now input)) number (length (now out)) (length (now errors)) ≡ true ⌝ }
+    ensures { λ r. ⌜ (r ≡ doneOf number (now (input .entry))) × (r .used ≤ length (now (input .entry))) ⌝ }
+    ensures { λ r. ⌜ (r .requests ≤ length (now (out .exit))) × (r .messages ≤ length (now (errors .exit))) ⌝ }
+    ensures { λ _. ⌜ now (out .exit) ≡ overwrite (now (out .entry)) 0 (requestsIn (now (input .entry))) ⌝ }
+    ensures { λ _. ⌜ now (errors .exit) ≡ overwrite (now (errors .entry)) 0 (messagesIn number (now (input .entry))) ⌝ }
 {
     let mut used: usize = 0;
     let mut next = number;
@@ -56,7 +68,7 @@ fn assemble_all(input: &[u8], number: u64, out: &mut [u8], errors: &mut [u8]) ->
     while end < input.len() {
         let line = line::read(&input[used..end]);
         requests = output::request(line, out, requests);
-        messages = output::message(line, next, errors, messages);
+        messages = output::message(&input[used..end], line, next, errors, messages);
         next += 1;
         used = end + 1;
         end = bytes::scan::find(input, used, input.len(), NEWLINE);
@@ -69,35 +81,81 @@ fn assemble_all(input: &[u8], number: u64, out: &mut [u8], errors: &mut [u8]) ->
     }
 }
 
-// Reads every line of the input that has its end, writes the requests that they ask for at the front of the output, and at the front of the errors
-// what bad lines should have been, the first line having the number given. Where these may be too short, or 64 bits for the numbers, nothing
-// is read or written.
-pub fn assemble(input: &[u8], number: u64, out: &mut [u8], errors: &mut [u8]) -> Done
-    ensures { λ r. ⌜ (r .used ≡ used (taken (now (input .entry)) number (length (now (out .entry))) (length (now (errors .entry))))) × (r .next ≡ number + length (linesTaken (now (input .entry)) number (length (now (out .entry))) (length (now (errors .entry))))) ⌝ }
-    ensures { λ r. ⌜ (r .requests ≡ length (requestsOf (linesTaken (now (input .entry)) number (length (now (out .entry))) (length (now (errors .entry)))))) × (r .messages ≡ length (messagesOf number (linesTaken (now (input .entry)) number (length (now (out .entry))) (length (now (errors .entry)))))) ⌝ }
-    ensures { λ r. ⌜ (r .used ≤ length (now (input .entry))) × (r .requests ≤ length (now (out .exit))) × (r .messages ≤ length (now (errors .exit))) ⌝ }
-    ensures { λ _. ⌜ now (out .exit) ≡ overwrite (now (out .entry)) 0 (requestsOf (linesTaken (now (input .entry)) number (length (now (out .entry))) (length (now (errors .entry))))) ⌝ }
-    ensures { λ _. ⌜ now (errors .exit) ≡ overwrite (now (errors .entry)) 0 (messagesOf number (linesTaken (now (input .entry)) number (length (now (out .entry))) (length (now (errors .entry))))) ⌝ }
+// Where the text ends of which `kept` bytes were there before and `got` were read. Where none were, it gets the end that its last line may lack.
+fn gather(input: &mut [u8], kept: usize, got: usize) -> usize
+    ensures { λ r. ⌜ (r ≡ textEnd (length (now (input .entry))) kept got) × (r ≤ length (now (input .exit))) ⌝ }
+    ensures { λ _. ⌜ now (input .exit) ≡ gathered (now (input .entry)) kept got ⌝ }
 {
-    if fits(input.len(), number, out.len(), errors.len()) {
-        return assemble_all(input, number, out, errors);
+    let size = input.len();
+    if size <= kept {
+        return size;
     }
-    Done {
-        used: 0,
+    if got == 0 {
+        input[kept] = NEWLINE;
+        return kept + 1;
+    }
+    if size - kept <= got {
+        return size;
+    }
+    kept + got
+}
+
+// How many bytes are kept of so many.
+fn start_len(left: usize) -> usize
+    ensures { λ r. ⌜ r ≡ min longestStart left ⌝ }
+{
+    if left < START { left } else { START }
+}
+
+// Puts the start of a line whose end is not read yet at the front, and answers how many bytes.
+fn keep(input: &mut [u8], used: usize, end: usize) -> usize
+    requires { ⌜ (used ≤ end) × (end ≤ length (now input)) ⌝ }
+    ensures { λ r. ⌜ r ≡ min longestStart (end - used) ⌝ }
+    ensures { λ _. ⌜ now (input .exit)
+        ≡ overwrite (now (input .entry)) 0 (take longestStart (take (end - used) (drop used (now (input .entry))))) ⌝ }
+{
+    let count = start_len(end - used);
+    let last = used + count;
+    let mut start = [0u8; START];
+    bytes::copy(&input[used..last], &mut start);
+    output::put(&start[0..count], input, 0)
+}
+
+// Reads the lines of an input at the front of which `kept` bytes were kept by the turn before and behind them `got` bytes read, 0 at its end, and
+// writes their requests and messages. Where these may not fit, or the lines' numbers 64 bits, nothing is read, written or kept.
+pub fn assemble(
+    input: &mut [u8],
+    kept: usize,
+    got: usize,
+    number: u64,
+    out: &mut [u8],
+    errors: &mut [u8],
+) -> Turn
+    ensures { λ r. ⌜ (record {
+      turn = r;
+      input = now (input .exit);
+      out = now (out .exit);
+      errors = now (errors .exit);
+    })
+        ≡ outcome (now (input .entry)) kept got number (now (out .entry)) (now (errors .entry)) ⌝ }
+    ensures { λ r. ⌜ (r .kept ≤ longestStart) × (r .requests ≤ length (now (out .exit))) ⌝ }
+    ensures { λ r. ⌜ r .messages ≤ length (now (errors .exit)) ⌝ }
+{
+    let end = gather(input, kept, got);
+    if fits(end, number, out.len(), errors.len()) {
+        let done = assemble_lines(&input[0..end], number, out, errors);
+        let left = keep(input, done.used, end);
+        return Turn {
+            kept: left,
+            next: done.next,
+            requests: done.requests,
+            messages: done.messages,
+        };
+    }
+    Turn {
+        kept: 0,
         next: number,
         requests: 0,
         messages: 0,
     }
-}
-
-// Keeps the start of a line whose end is not read yet, as far as there is room, and answers how many bytes.
-pub fn keep(start: &[u8], line: &mut [u8]) -> usize
-    ensures { λ r. ⌜ (r ≡ min (length (now (start .entry))) (length (now (line .entry)))) × (r ≤ length (now (line .exit))) ⌝ }
-    ensures { λ _. ⌜ now (line .exit) ≡ overwrite (now (line .entry)) 0 (take (length (now (line .entry))) (now (start .entry))) ⌝ }
-{
-    if start.len() < line.len() {
-        return output::put(start, line, 0);
-    }
-    let room = line.len();
-    output::put(&start[0..room], line, 0)
 }

@@ -1,68 +1,131 @@
 -- What each way through the reader comes to.
-use Prim.Native.Nat.{ℕ, _-_, _≤_, _<_}
-use mathlib.Core.Path.{_≡_}
-use mathlib.Core.List.{List}
+use Prim.Native.Nat.{ℕ, _+_, _-_, _≤_, _<_, min}
+use mathlib.Core.Path.{_≡_, refl}
+use mathlib.Core.Bool.{Bool, true, false}
+use mathlib.Core.List.{List, [], _∷_, _++_}
 use native.Mathlib.Nat.{sub-zero}
+use native.Mathlib.Decide.{decLt, decLe}
+use native.Mathlib.Omega.{arith}
 use borrow.Author.Tests.{lt-ltb, le-ltb, eq-eqb, ne-eqb}
-use lib.ListN.{length, take, drop}
-use Rattle.line.specs.Text.{find, skip, word, wordEnd}
+use lib.ListN.{length, take, drop, getD, length-append, length-take, length-drop, drop-of-length-le}
+use lib.Seq.{take-nil, take-all, take-length, take-append-seam, getD-append-seam}
+use lib.Dec.{eqb}
+use Rattle.bytes.specs.Bytes.{slice, indexOf}
+use Rattle.line.specs.Text.{nextWord, wordAt, carriageReturn, trimmedEnd, trimmed}
 use Rattle.line.specs.Number.{limit, number}
-use Rattle.line.specs.Line.{operationOf, request, numbers, statement, hash, readLine}
+use Rattle.line.specs.Line.{operationOf, request, counted, numbers, statement, hash, longestLine, readText, readLine}
+use Rattle.line.specs.declared.Word.{Word}
 use Rattle.line.specs.declared.Line.the-variants.{Request, Nothing, BadOperation, BadNumber, TrailingText, TooLong}
 
-module _ (text : List ℕ) (a operation argument count : ℕ) where
-  pub bad-argument : limit ≤ argument → BadNumber ≡ request text a operation argument count
-  unfolding request
-  bad-argument h = rw (le-ltb argument limit h)
-
-  module _ (small : argument < limit) where
-    pub bad-count : limit ≤ count → BadNumber ≡ request text a operation argument count
+module _ (text : List ℕ) (a : ℕ) {w : Word} (next : w ≡ nextWord text a) where
+  module _ (operation argument count : ℕ) where
+    pub word-left : (w .start ≡ length text → ⊥) → TrailingText w ≡ request text a operation argument count
     unfolding request
-    bad-count h = rw (lt-ltb argument limit small, le-ltb count limit h)
+    word-left h = rw (← next, ne-eqb (w .start) (length text) h)
 
-    module _ (few : count < limit) {rest : ℕ} (at : rest ≡ skip text a) where
-      pub more-left : (rest ≡ length text → ⊥) → TrailingText ≡ request text a operation argument count
-      unfolding request
-      more-left h = rw (lt-ltb argument limit small, lt-ltb count limit few, ← at, ne-eqb rest (length text) h)
+    pub none-left : w .start ≡ length text → Request operation argument count ≡ request text a operation argument count
+    unfolding request
+    none-left h = rw (← next, eq-eqb (w .start) (length text) h)
 
-      pub none-left : rest ≡ length text → Request operation argument count ≡ request text a operation argument count
-      unfolding request
-      none-left h = rw (lt-ltb argument limit small, lt-ltb count limit few, ← at, eq-eqb rest (length text) h)
+  module _ {n : ℕ} (read : n ≡ number (wordAt text w)) where
+    pub bad-count : (argument : ℕ) → limit ≤ n → BadNumber w ≡ counted text a argument
+    unfolding counted
+    bad-count argument h = rw (← next, ← read, le-ltb n limit h)
 
-module _ (text : List ℕ) (a operation : ℕ) {argument b : ℕ} (first : argument ≡ number (word text a)) (end : b ≡ wordEnd text a) where
-  pub one-number : (operation ≡ 5 → ⊥) → request text b operation argument 0 ≡ numbers text a operation
-  unfolding numbers
-  one-number h = rw (ne-eqb operation 5 h, first, end)
+    pub a-count : (argument : ℕ) → n < limit → request text (w .end) 5 argument n ≡ counted text a argument
+    unfolding counted
+    a-count argument h = rw (← next, ← read, lt-ltb n limit h)
 
-  pub two-numbers : {count rest : ℕ} → operation ≡ 5 → count ≡ number (word text b) → rest ≡ wordEnd text b
-      → request text rest operation argument count ≡ numbers text a operation
-  unfolding numbers
-  two-numbers h second last = rw (eq-eqb operation 5 h, last, second, first, end)
+    module _ (operation : ℕ) where
+      pub bad-argument : limit ≤ n → BadNumber w ≡ numbers text a operation
+      unfolding numbers
+      bad-argument h = rw (← next, ← read, le-ltb n limit h)
 
-module _ (text : List ℕ) {start : ℕ} (at : start ≡ skip text 0) where
-  pub no-word : start ≡ length text → Nothing ≡ statement text
+      pub two-numbers : n < limit → operation ≡ 5 → counted text (w .end) n ≡ numbers text a operation
+      unfolding numbers
+      two-numbers h e = rw (← next, ← read, lt-ltb n limit h, eq-eqb operation 5 e)
+
+      pub one-number : n < limit → (operation ≡ 5 → ⊥) → request text (w .end) operation n 0 ≡ numbers text a operation
+      unfolding numbers
+      one-number h e = rw (← next, ← read, lt-ltb n limit h, ne-eqb operation 5 e)
+
+module _ (text : List ℕ) {w : Word} (next : w ≡ nextWord text 0) where
+  pub no-word : w .start ≡ length text → Nothing ≡ statement text
   unfolding statement
-  no-word h = rw (← at, eq-eqb start (length text) h)
+  no-word h = rw (← next, eq-eqb (w .start) (length text) h)
 
-  module _ (some : start ≡ length text → ⊥) {end operation : ℕ} (last : end ≡ wordEnd text 0)
-      (named : operation ≡ operationOf (take (end - start) (drop start text))) where
-    name : operation ≡ operationOf (word text 0)
-    unfolding word
-    name = rw (named, last, at)
-
-    pub no-operation : operation ≡ 6 → BadOperation ≡ statement text
+  module _ (some : w .start ≡ length text → ⊥) {operation : ℕ} (named : operation ≡ operationOf (wordAt text w)) where
+    pub no-operation : operation ≡ 6 → BadOperation w ≡ statement text
     unfolding statement
-    no-operation h = rw (← at, ne-eqb start (length text) some, ← name, eq-eqb operation 6 h)
+    no-operation h = rw (← next, ne-eqb (w .start) (length text) some, ← named, eq-eqb operation 6 h)
 
-    pub an-operation : (operation ≡ 6 → ⊥) → numbers text end operation ≡ statement text
+    pub an-operation : (operation ≡ 6 → ⊥) → numbers text (w .end) operation ≡ statement text
     unfolding statement
-    an-operation h = rw (← at, ne-eqb start (length text) some, ← name, ne-eqb operation 6 h, last)
+    an-operation h = rw (← next, ne-eqb (w .start) (length text) some, ← named, ne-eqb operation 6 h)
 
 module _ (line : List ℕ) where
-  pub long-line : 255 < length line → TooLong ≡ readLine line
-  unfolding readLine
-  long-line h = rw (lt-ltb 255 (length line) h)
+  pub long-text : longestLine < length line → TooLong ≡ readText line
+  unfolding readText
+  long-text h = rw (lt-ltb longestLine (length line) h)
 
-  pub short-line : {end : ℕ} → length line ≤ 255 → end ≡ find line 0 hash → statement (take (end - 0) (drop 0 line)) ≡ readLine line
-  unfolding readLine
-  short-line {end} h e = rw (le-ltb 255 (length line) h, ← e, sub-zero end)
+  pub short-text : {end : ℕ} → length line ≤ longestLine → end ≡ 0 + indexOf hash (slice 0 (length line) line)
+      → statement (take (end - 0) line) ≡ readText line
+  unfolding readText slice
+  short-text {end} h e =
+      let found : end ≡ indexOf hash line = omega (arith, rw take-length at e) in
+      rw (le-ltb longestLine (length line) h, ← found, sub-zero end)
+
+  -- the last byte is a carriage return, or there is none
+  pub return-last : getD line (length line - 1) 0 ≡ carriageReturn → length line - 1 ≡ trimmedEnd line
+  unfolding trimmedEnd
+  return-last h = rw (eq-eqb (getD line (length line - 1) 0) carriageReturn h)
+
+  pub other-last : (getD line (length line - 1) 0 ≡ carriageReturn → ⊥) → length line ≡ trimmedEnd line
+  unfolding trimmedEnd
+  other-last h = rw (ne-eqb (getD line (length line - 1) 0) carriageReturn h)
+
+pub no-byte : (line : List ℕ) → length line ≡ 0 → 0 ≡ trimmedEnd line
+unfolding trimmedEnd
+no-byte [] h = refl
+no-byte (b ∷ rest) h = absurd (omega arith)
+
+-- a line is read alike with a carriage return before its line feed and without
+pub return-ignored : (line : List ℕ) → (getD line (length line - 1) 0 ≡ carriageReturn → ⊥)
+    → readLine (line ++ (carriageReturn ∷ [])) ≡ readLine line
+return-ignored line h =
+    let long : List ℕ = line ++ (carriageReturn ∷ []) in
+    let size : length long - 1 ≡ length line = simp length-append (omega arith) in
+    let last : getD long (length long - 1) 0 ≡ carriageReturn = rw size (getD-append-seam line carriageReturn [] 0) in
+    rw (← return-last long last, size, take-append-seam, ← other-last line h, take-length)
+
+-- a word is what of it lies in the text
+pub word-within : (text : List ℕ) (w : Word) {start end : ℕ} → end ≡ min (w .end) (length text) → start ≡ min (w .start) end
+    → take (end - start) (drop start text) ≡ wordAt text w
+word-within text w {start} {end} e f = go (decLt (w .start) end) (decLe (w .end) (length text))
+  where
+    go : Dec (w .start < end) → Dec (w .end ≤ length text) → take (end - start) (drop start text) ≡ wordAt text w
+    go (yes h) (yes l) =
+        let s : start ≡ w .start = omega arith in
+        let t : end ≡ w .end = omega arith in
+        rw (s, t)
+    go (yes h) (no l) =
+        let s : start ≡ w .start = omega arith in
+        let t : end ≡ length text = omega arith in
+        let size : length (drop (w .start) text) ≡ length text - w .start = length-drop (w .start) text in
+        rw (s, t, take-all (length text - w .start) (drop (w .start) text) (omega arith), take-all (w .end - w .start) (drop (w .start) text) (omega arith))
+    go (no h) (yes l) =
+        let s : end - start ≡ 0 = omega arith in
+        let t : w .end - w .start ≡ 0 = omega arith in
+        rw (s, t)
+    go (no h) (no l) =
+        let s : end - start ≡ 0 = omega arith in
+        rw (s, drop-of-length-le text {i = w .start} (omega arith), take-nil)
+
+-- a line that has more bytes than a line and a carriage return may have is too long
+pub long-line : (line : List ℕ) → longestLine + 1 < length line → TooLong ≡ readLine line
+unfolding trimmedEnd
+long-line line h = long-text (trimmed line) (go (eqb (getD line (length line - 1) 0) carriageReturn) refl)
+  where
+    go : (t : Bool) → eqb (getD line (length line - 1) 0) carriageReturn ≡ t → longestLine < length (trimmed line)
+    go true e = rw (e, length-take) (omega arith)
+    go false e = rw (e, length-take) (omega arith)

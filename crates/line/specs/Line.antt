@@ -1,14 +1,16 @@
 -- What a line of text asks for, and the bytes of a request.
 use Prim.Native.Nat.{ℕ}
-use mathlib.Core.Bool.{Bool, true, false, _&&_, cond}
+use mathlib.Core.Bool.{cond}
 use mathlib.Core.List.{List, [], _∷_, _++_}
 use lib.ListN.{length, take, getD}
 use lib.Dec.{ltb, eqb}
 use Rattle.search.specs.First.{first}
 use Rattle.alike.specs.Alike.{alike}
 use Rattle.words.specs.Word.{bytesOf}
-use Rattle.line.specs.Text.{bytes, find, skip, word, wordEnd}
+use Rattle.bytes.specs.Bytes.{indexOf}
+use Rattle.line.specs.Text.{bytes, nextWord, wordAt, trimmed}
 use Rattle.line.specs.Number.{limit, number}
+use Rattle.line.specs.declared.Word.{Word}
 use Rattle.line.specs.declared.Line.{Line}
 use Rattle.line.specs.declared.Line.the-variants.{Request, Nothing, BadOperation, BadNumber, TrailingText, TooLong}
 
@@ -20,30 +22,49 @@ names = bytes "place" ∷ bytes "free" ∷ bytes "measure" ∷ bytes "copy" ∷ 
 unfoldable pub operationOf : List ℕ → ℕ
 operationOf name = first (λ k. alike name (getD names k [])) 0 6
 
--- a request, where its numbers are below the limit and only spaces are left from place a on
+-- a request, where no word is left from place a on
 unfoldable pub request : List ℕ → ℕ → ℕ → ℕ → ℕ → Line
 request text a operation argument count =
-    cond (ltb argument limit && ltb count limit) (cond (eqb (skip text a) (length text)) (Request operation argument count) TrailingText) BadNumber
+    let w : Word = nextWord text a in
+    cond (eqb (w .start) (length text)) (Request operation argument count) (TrailingText w)
 
--- the numbers from place a on: operation 5 has two, any other one
+-- the second number, from place a on, which operation 5 alone has
+unfoldable pub counted : List ℕ → ℕ → ℕ → Line
+counted text a argument =
+    let w : Word = nextWord text a in
+    let count : ℕ = number (wordAt text w) in
+    cond (ltb count limit) (request text (w .end) 5 argument count) (BadNumber w)
+
+-- the numbers from place a on
 unfoldable pub numbers : List ℕ → ℕ → ℕ → Line
 numbers text a operation =
-    let argument : ℕ = number (word text a) in
-    let b : ℕ = wordEnd text a in
-    cond (eqb operation 5) (request text (wordEnd text b) operation argument (number (word text b))) (request text b operation argument 0)
+    let w : Word = nextWord text a in
+    let argument : ℕ = number (wordAt text w) in
+    cond (ltb argument limit)
+    (cond (eqb operation 5) (counted text (w .end) argument) (request text (w .end) operation argument 0))
+    (BadNumber w)
 
 -- a text without a comment: nothing, or an operation and its numbers
 unfoldable pub statement : List ℕ → Line
 statement text =
-    let operation : ℕ = operationOf (word text 0) in
-    cond (eqb (skip text 0) (length text)) Nothing (cond (eqb operation 6) BadOperation (numbers text (wordEnd text 0) operation))
+    let w : Word = nextWord text 0 in
+    let operation : ℕ = operationOf (wordAt text w) in
+    cond (eqb (w .start) (length text)) Nothing (cond (eqb operation 6) (BadOperation w) (numbers text (w .end) operation))
 
 abbrev pub hash : ℕ
 hash = 35
 
--- a line of at most 255 bytes, of which a comment is no part
-unfoldable pub readLine : List ℕ → Line
-readLine line = cond (ltb 255 (length line)) TooLong (statement (take (find line 0 hash) line))
+-- how many bytes a line may have, its end not counted
+abbrev pub longestLine : ℕ
+longestLine = 255
+
+-- a line, of which a comment is no part
+unfoldable pub readText : List ℕ → Line
+readText line = cond (ltb longestLine (length line)) TooLong (statement (take (indexOf hash line) line))
+
+-- a line that ends in a line feed, or in a carriage return and a line feed; the line feed is taken off
+abbrev pub readLine : List ℕ → Line
+readLine line = readText (trimmed line)
 
 -- four words: the operation, its size or offset, its count, and zero
 abbrev pub requestBytes : ℕ → ℕ → ℕ → List ℕ
@@ -57,7 +78,7 @@ requestSize = 16
 unfoldable pub requestOf : Line → List ℕ
 requestOf (Request operation argument count) = requestBytes operation argument count
 requestOf Nothing = []
-requestOf BadOperation = []
-requestOf BadNumber = []
-requestOf TrailingText = []
+requestOf (BadOperation w) = []
+requestOf (BadNumber w) = []
+requestOf (TrailingText w) = []
 requestOf TooLong = []

@@ -3,13 +3,23 @@ mod number;
 mod scan;
 
 use alike::same;
+pub use scan::word_bytes;
 ghost use mathlib.Core.Path.{_≡_};
 ghost use mathlib.Core.List.{[]};
 ghost use Prim.Native.Nat.{_%_, _<_, _≤_};
 ghost use lib.ListN.{length, getD};
 ghost use Rattle.alike.specs.Alike.{alike};
-ghost use Rattle.line.specs.Line.{names, operationOf, request, numbers, statement, readLine, requestBytes};
+ghost use Rattle.line.specs.Text.{trimmedEnd};
+ghost use Rattle.line.specs.Number.{limit};
+ghost use Rattle.line.specs.Line.{names, operationOf, request, counted, numbers, statement, readText, readLine, requestBytes};
 
+// Where a word lies in its line.
+pub struct Word {
+    pub start: usize,
+    pub end: usize,
+}
+
+// What a line asks for. A bad line has the word that stands where another was expected, empty where none is left.
 pub enum Line {
     Request {
         operation: u32,
@@ -17,9 +27,9 @@ pub enum Line {
         count: u32,
     },
     Nothing,
-    BadOperation,
-    BadNumber,
-    TrailingText,
+    BadOperation(Word),
+    BadNumber(Word),
+    TrailingText(Word),
     TooLong,
 }
 
@@ -56,19 +66,14 @@ fn operation_of(word: &[u8]) -> u32
     operation
 }
 
-// The request, where nothing is left of the text.
+// The request, where no word is left.
 fn request(text: &[u8], from: usize, operation: u32, argument: u64, count: u64) -> Line
-    requires { ⌜ from ≤ length (now text) ⌝ }
+    requires { ⌜ (from ≤ length (now text)) × (argument < limit) × (count < limit) ⌝ }
     ensures { λ r. ⌜ r ≡ request (now (text .entry)) from operation argument count ⌝ }
 {
-    if number::LIMIT <= argument {
-        return Line::BadNumber;
-    }
-    if number::LIMIT <= count {
-        return Line::BadNumber;
-    }
-    if scan::skip(text, from) != text.len() {
-        return Line::TrailingText;
+    let word = scan::next(text, from);
+    if word.start != text.len() {
+        return Line::TrailingText(word);
     }
     Line::Request {
         operation,
@@ -77,46 +82,80 @@ fn request(text: &[u8], from: usize, operation: u32, argument: u64, count: u64) 
     }
 }
 
+// The second number.
+fn counted(text: &[u8], from: usize, argument: u64) -> Line
+    requires { ⌜ (from ≤ length (now text)) × (argument < limit) ⌝ }
+    ensures { λ r. ⌜ r ≡ counted (now (text .entry)) from argument ⌝ }
+{
+    let word = scan::next(text, from);
+    let count = number::of(scan::word_bytes(text, word));
+    if number::LIMIT <= count {
+        return Line::BadNumber(word);
+    }
+    request(text, word.end, COUNTED, argument, count)
+}
+
 // The numbers after the operation's name.
 fn numbers(text: &[u8], from: usize, operation: u32) -> Line
     requires { ⌜ from ≤ length (now text) ⌝ }
     ensures { λ r. ⌜ r ≡ numbers (now (text .entry)) from operation ⌝ }
 {
-    let argument = number::next(text, from);
-    let second = scan::word_end(text, from);
-    if operation != COUNTED {
-        return request(text, second, operation, argument, 0);
+    let word = scan::next(text, from);
+    let argument = number::of(scan::word_bytes(text, word));
+    if number::LIMIT <= argument {
+        return Line::BadNumber(word);
     }
-    let count = number::next(text, second);
-    let rest = scan::word_end(text, second);
-    request(text, rest, operation, argument, count)
+    if operation == COUNTED {
+        return counted(text, word.end, argument);
+    }
+    request(text, word.end, operation, argument, 0)
 }
 
 // A line without its comment.
 fn statement(text: &[u8]) -> Line
     ensures { λ r. ⌜ r ≡ statement (now (text .entry)) ⌝ }
 {
-    let start = scan::skip(text, 0);
-    if start == text.len() {
+    let word = scan::next(text, 0);
+    if word.start == text.len() {
         return Line::Nothing;
     }
-    let end = scan::word_end(text, 0);
-    let operation = operation_of(&text[start..end]);
+    let operation = operation_of(scan::word_bytes(text, word));
     if operation == OPERATIONS {
-        return Line::BadOperation;
+        return Line::BadOperation(word);
     }
-    numbers(text, end, operation)
+    numbers(text, word.end, operation)
 }
 
-// What any line asks for; it is given without its line end.
-pub fn read(line: &[u8]) -> Line
-    ensures { λ r. ⌜ r ≡ readLine (now (line .entry)) ⌝ }
+// Where a line ends without the carriage return that may stand before its line feed.
+fn trimmed_end(line: &[u8]) -> usize
+    ensures { λ r. ⌜ (r ≡ trimmedEnd (now (line .entry))) × (r ≤ length (now (line .entry))) ⌝ }
+{
+    if line.len() == 0 {
+        return 0;
+    }
+    let last = line.len() - 1;
+    if line[last] == b'\r' {
+        return last;
+    }
+    line.len()
+}
+
+fn read_text(line: &[u8]) -> Line
+    ensures { λ r. ⌜ r ≡ readText (now (line .entry)) ⌝ }
 {
     if LONGEST < line.len() {
         return Line::TooLong;
     }
-    let end = scan::find(line, 0, b'#');
+    let end = bytes::scan::find(line, 0, line.len(), b'#');
     statement(&line[0..end])
+}
+
+// What any line asks for; it is given without its line feed.
+pub fn read(line: &[u8]) -> Line
+    ensures { λ r. ⌜ r ≡ readLine (now (line .entry)) ⌝ }
+{
+    let end = trimmed_end(line);
+    read_text(&line[0..end])
 }
 
 fn low(n: u32) -> u8

@@ -1,9 +1,6 @@
 // Numbers of 32 bits in decimal.
-use super::scan;
 ghost use mathlib.Core.Path.{_≡_};
 ghost use Prim.Native.Nat.{_≤_};
-ghost use lib.ListN.{length};
-ghost use Rattle.line.specs.Text.{word};
 ghost use Rattle.line.specs.Number.{limit, more, number};
 
 // The first number that is too large; it stands for every word that is no number.
@@ -23,7 +20,8 @@ fn more(n: u64, byte: u8) -> u64
     if next < LIMIT { next } else { LIMIT }
 }
 
-fn of(word: &[u8]) -> u64
+// The number that a word spells.
+pub fn of(word: &[u8]) -> u64
     ensures { λ r. ⌜ r ≡ number (now (word .entry)) ⌝ }
 {
     if word.len() == 0 {
@@ -36,14 +34,4 @@ fn of(word: &[u8]) -> u64
         i += 1;
     }
     n
-}
-
-// The number that the next word spells.
-pub fn next(text: &[u8], from: usize) -> u64
-    requires { ⌜ from ≤ length (now text) ⌝ }
-    ensures { λ r. ⌜ r ≡ number (word (now (text .entry)) from) ⌝ }
-{
-    let start = scan::skip(text, from);
-    let end = scan::word_end(text, from);
-    of(&text[start..end])
 }

@@ -1,18 +1,28 @@
 // Finding words in a text.
+use super::Word;
 ghost use mathlib.Core.Path.{_≡_};
-ghost use Prim.Native.Nat.{_≤_};
+ghost use Prim.Native.Nat.{_≤_, min};
 ghost use lib.ListN.{length};
-ghost use Rattle.line.specs.Text.{find, skip, wordEnd};
+ghost use Rattle.line.specs.Text.{isBlank, seek, nextWord, wordAt};
 
-// The first place that holds a byte, or the length.
-pub fn find(text: &[u8], from: usize, byte: u8) -> usize
+fn is_blank(byte: u8) -> bool
+    ensures { λ r. ⌜ r ≡ isBlank byte ⌝ }
+{
+    if byte == b'\t' {
+        return true;
+    }
+    byte == b' '
+}
+
+// The first place whose byte is a blank, or is none, as asked; the length where there is no such place.
+fn seek(text: &[u8], from: usize, blank: bool) -> usize
     requires { ⌜ from ≤ length (now text) ⌝ }
-    ensures { λ r. ⌜ r ≡ find (now (text .entry)) from byte ⌝ }
+    ensures { λ r. ⌜ r ≡ seek (now (text .entry)) from blank ⌝ }
     ensures { λ r. ⌜ (from ≤ r) × (r ≤ length (now (text .entry))) ⌝ }
 {
     let mut at = from;
     while at < text.len() {
-        if text[at] == byte {
+        if is_blank(text[at]) == blank {
             return at;
         }
         at += 1;
@@ -20,28 +30,28 @@ pub fn find(text: &[u8], from: usize, byte: u8) -> usize
     at
 }
 
-// The first place that holds no space, or the length.
-pub fn skip(text: &[u8], from: usize) -> usize
+// Where the next word lies.
+pub fn next(text: &[u8], from: usize) -> Word
     requires { ⌜ from ≤ length (now text) ⌝ }
-    ensures { λ r. ⌜ r ≡ skip (now (text .entry)) from ⌝ }
-    ensures { λ r. ⌜ (from ≤ r) × (r ≤ length (now (text .entry))) ⌝ }
+    ensures { λ r. ⌜ r ≡ nextWord (now (text .entry)) from ⌝ }
+    ensures { λ r. ⌜ (r .start ≤ r .end) × (r .end ≤ length (now (text .entry))) ⌝ }
 {
-    let mut at = from;
-    while at < text.len() {
-        if text[at] != b' ' {
-            return at;
-        }
-        at += 1;
-    }
-    at
+    let start = seek(text, from, false);
+    let end = seek(text, start, true);
+    Word { start, end }
 }
 
-// The place after the next word.
-pub fn word_end(text: &[u8], from: usize) -> usize
-    requires { ⌜ from ≤ length (now text) ⌝ }
-    ensures { λ r. ⌜ r ≡ wordEnd (now (text .entry)) from ⌝ }
-    ensures { λ r. ⌜ (skip (now (text .entry)) from ≤ r) × (r ≤ length (now (text .entry))) ⌝ }
+fn least(a: usize, b: usize) -> usize
+    ensures { λ r. ⌜ r ≡ min a b ⌝ }
 {
-    let start = skip(text, from);
-    find(text, start, b' ')
+    if a < b { a } else { b }
+}
+
+// The bytes of a word, as far as they lie in the text.
+pub fn word_bytes(text: &[u8], word: Word) -> &[u8]
+    ensures { λ r. ⌜ now r ≡ wordAt (now (text .entry)) word ⌝ }
+{
+    let end = least(word.end, text.len());
+    let start = least(word.start, end);
+    &text[start..end]
 }

@@ -1,21 +1,34 @@
-use mathlib.Core.Path.{_≡_, refl, sym, _∙_}
-use mathlib.Core.Bool.{true, false}
+-- One turn, where there is room and where there may be none.
 use native.Mathlib.Omega.{arith}
-use lib.ListN.{length}
-use Rattle.assembly.specs.Batch.{linesFrom, restFrom, requestsOf, messagesOf, fits}
-use Rattle.assembly.proofs.Room.{room-known}
+use Rattle.assembly.proofs.Turning.{room-left, no-turn, a-turn}
 use borrow.Author.Needs.{needs}
 use Rattle.assembly.proofs.assemble.Statement.{statement}
 use Rattle.assembly.proofs.assemble.Tie as tie
 
+gather-requires : tie.Need-gather-requires
+gather-requires c κs = search needs
+
 fits-requires : tie.Need-fits-requires
 fits-requires c κs = search needs
 
-assemble-all-requires : tie.Need-assemble-all-requires
-assemble-all-requires c κs =
-    let a = c .before .before .before .before .before .before .before .args in
-    room-known (length (a .input .now)) (a .number) (length (a .out .now)) (length (a .errors .now))
-    (sym (c .before .before .before .fits2 .ensures) ∙ c .before .before .if1 .taken)
+sub-assemble-lines : tie.Need-sub-assemble-lines
+sub-assemble-lines c = search needs
+
+part-assemble-lines-start : tie.Need-part-assemble-lines-start
+part-assemble-lines-start c = search needs
+
+part-assemble-lines-end : tie.Need-part-assemble-lines-end
+part-assemble-lines-end c = search needs
+
+assemble-lines-requires : tie.Need-assemble-lines-requires
+assemble-lines-requires c κs =
+    let b = c .before .before .before .before in
+    let g = b .before .before .before .before .gather in
+    let a = b .before .before .before .before .before .before .before .before .before .args in
+    room-left (a .input .now) (a .kept) (a .got) (a .number) (a .out .now) (a .errors .now) (g .result) (g .last .0) (g .ensures .0 .0) (g .ensures .0 .1) (g .ensures .1) (b .before .fits2 .ensures) (b .if1 .taken)
+
+keep-requires : tie.Need-keep-requires
+keep-requires c κs = search needs
 
 same-length : tie.Need-same-length
 same-length c = search needs
@@ -23,22 +36,44 @@ same-length c = search needs
 same-length-2 : tie.Need-same-length-2
 same-length-2 c = search needs
 
+same-length-3 : tie.Need-same-length-3
+same-length-3 c = search needs
+
 returns : tie.Need-returns
 returns c =
-    let a = c .before .before .before .before .before .before .before .before .before .before .before .before .args in
-    let e : fits (length (a .input .now)) (a .number) (length (a .out .now)) (length (a .errors .now)) ≡ true =
-    sym (c .before .before .before .before .before .before .before .before .fits2 .ensures) ∙ c .before .before .before .before .before .before .before .if1 .taken in
-    rw e (c .before .before .before .before .assemble-all .ensures)
+    let d = c .before .before .before .before .before .before .before .before in
+    let b = d .before .before .before .before .before in
+    let g = b .before .before .before .before .gather in
+    let a = b .before .before .before .before .before .before .before .before .before .args in
+    let k = c .before .before .keep in
+    let e = d .assemble-lines .ensures in (
+      a-turn (a .input .now) (a .kept) (a .got) (a .number) (a .out .now) (a .errors .now) (g .result) (g .last .0) (g .ensures .0 .0) (g .ensures .0 .1) (g .ensures .1) (b .before .fits2 .ensures) (b .if1 .taken) (e .0 .0) (k .ensures .0) (k .ensures .1) (e .1 .1 .0) (e .1 .1 .1),
+      ((omega arith, omega arith), omega arith),
+    )
+
+same-length-4 : tie.Need-same-length-4
+same-length-4 c = search needs
 
 returns-2 : tie.Need-returns-2
-unfolding linesFrom restFrom requestsOf messagesOf
 returns-2 c =
-    let a = c .before .before .before .before .before .args in
-    let e : fits (length (a .input .now)) (a .number) (length (a .out .now)) (length (a .errors .now)) ≡ false =
-    sym (c .before .fits2 .ensures) ∙ c .if1 .left in
-    rw e ((refl, omega arith), ((refl, refl), ((omega arith, omega arith, omega arith), (refl, refl))))
+    let a = c .before .before .before .before .before .before .before .before .before .args in
+    let g = c .before .before .before .before .gather in
+    (no-turn (a .input .now) (a .kept) (a .got) (a .number) (a .out .now) (a .errors .now) (g .result) (g .last .0) (g .ensures .0 .0) (g .ensures .0 .1) (g .ensures .1) (c .before .fits2 .ensures) (c .if1 .left), ((omega arith, omega arith), omega arith))
 
 pub assemble-spec : {M : Type 1} → statement M
 assemble-spec =
     tie.close
-    (tie.spec fits-requires assemble-all-requires same-length same-length-2 returns returns-2)
+    (tie.spec
+    gather-requires
+    fits-requires
+    sub-assemble-lines
+    part-assemble-lines-start
+    part-assemble-lines-end
+    assemble-lines-requires
+    keep-requires
+    same-length
+    same-length-2
+    same-length-3
+    returns
+    same-length-4
+    returns-2)

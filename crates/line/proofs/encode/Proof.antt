@@ -1,3 +1,4 @@
+-- The bytes of a request, one after another.
 use borrow.Author.Needs.{needs}
 use Rattle.line.proofs.encode.Statement.{statement}
 use Rattle.line.proofs.encode.Tie as tie

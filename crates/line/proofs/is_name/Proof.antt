@@ -1,3 +1,4 @@
+-- One of the six names compared.
 use mathlib.Core.Path.{_≡_}
 use native.Mathlib.Omega.{arith}
 use borrow.Author.Needs.{needs}

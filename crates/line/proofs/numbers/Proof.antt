@@ -1,46 +1,53 @@
-use mathlib.Core.Path.{_∙_}
+-- One number or two, or the word in their place.
+use mathlib.Core.Path.{ap, _∙_}
+use native.Mathlib.Omega.{arith}
+use Rattle.line.specs.Number.{number}
+use Rattle.line.proofs.Reading.{bad-argument, two-numbers, one-number}
 use borrow.Author.Needs.{needs}
-use Rattle.line.proofs.Reading.{one-number, two-numbers}
 use Rattle.line.proofs.numbers.Statement.{statement}
 use Rattle.line.proofs.numbers.Tie as tie
 
 next-requires : tie.Need-next-requires
 next-requires c κs = search needs
 
-word-end-requires : tie.Need-word-end-requires
-word-end-requires c κs = search needs
+word-bytes-requires : tie.Need-word-bytes-requires
+word-bytes-requires c κs = search needs
+
+of-requires : tie.Need-of-requires
+of-requires c κs = search needs
+
+returns : tie.Need-returns
+returns c =
+    let b = c .before in
+    bad-argument _ _ (b .before .before .next .ensures .0) (b .of .ensures ∙ ap number (b .before .word-bytes .ensures)) _ (c .if1 .taken)
+
+counted-requires : tie.Need-counted-requires
+counted-requires c κs = search needs
+
+returns-2 : tie.Need-returns-2
+returns-2 c =
+    let b = c .before .before .before in
+    c .counted .ensures
+    ∙ two-numbers _ _ (b .before .before .next .ensures .0) (b .of .ensures ∙ ap number (b .before .word-bytes .ensures)) _ (omega arith) (c .before .if2 .taken)
 
 request-requires : tie.Need-request-requires
 request-requires c κs = search needs
 
-returns : tie.Need-returns
-returns c =
+returns-3 : tie.Need-returns-3
+returns-3 c =
+    let b = c .before .before .before in
     c .request .ensures
-    ∙ one-number _ _ _ (c .before .before .before .next .ensures) (c .before .before .word-end .ensures .0) (c .before .if1 .taken)
-
-next-requires-2 : tie.Need-next-requires-2
-next-requires-2 c κs = search needs
-
-word-end-requires-2 : tie.Need-word-end-requires-2
-word-end-requires-2 c κs = search needs
-
-request-requires-2 : tie.Need-request-requires-2
-request-requires-2 c κs = search needs
-
-returns-2 : tie.Need-returns-2
-returns-2 c =
-    c .request2 .ensures
-    ∙ two-numbers _ _ _ (c .before .before .before .before .before .next .ensures) (c .before .before .before .before .word-end .ensures .0) (c .before .before .before .if1 .left) (c .before .before .next2 .ensures) (c .before .word-end2 .ensures .0)
+    ∙ one-number _ _ (b .before .before .next .ensures .0) (b .of .ensures ∙ ap number (b .before .word-bytes .ensures)) _ (omega arith) (c .before .if2 .left)
 
 pub numbers-spec : {M : Type 1} → statement M
 numbers-spec =
     tie.close
     (tie.spec
     next-requires
-    word-end-requires
-    request-requires
+    word-bytes-requires
+    of-requires
     returns
-    next-requires-2
-    word-end-requires-2
-    request-requires-2
-    returns-2)
+    counted-requires
+    returns-2
+    request-requires
+    returns-3)

@@ -1,38 +1,35 @@
+-- A line without its carriage return.
 use mathlib.Core.Path.{_∙_}
+use native.Mathlib.Nat.{sub-zero}
 use borrow.Author.Needs.{needs}
-use Rattle.line.proofs.Reading.{long-line, short-line}
 use Rattle.line.proofs.read.Statement.{statement}
 use Rattle.line.proofs.read.Tie as tie
 
+trimmed-end-requires : tie.Need-trimmed-end-requires
+trimmed-end-requires c κs = search needs
+
+sub-read-text : tie.Need-sub-read-text
+sub-read-text c = search needs
+
+part-read-text-start : tie.Need-part-read-text-start
+part-read-text-start c = search needs
+
+part-read-text-end : tie.Need-part-read-text-end
+part-read-text-end c = search needs
+
+read-text-requires : tie.Need-read-text-requires
+read-text-requires c κs = search needs
+
 returns : tie.Need-returns
-returns c = long-line _ (c .if1 .taken)
-
-find-requires : tie.Need-find-requires
-find-requires c κs = search needs
-
-sub-statement : tie.Need-sub-statement
-sub-statement c = search needs
-
-part-statement-start : tie.Need-part-statement-start
-part-statement-start c = search needs
-
-part-statement-end : tie.Need-part-statement-end
-part-statement-end c = search needs
-
-statement-requires : tie.Need-statement-requires
-statement-requires c κs = search needs
-
-returns-2 : tie.Need-returns-2
-returns-2 c = c .statement .ensures ∙ short-line _ (c .before .before .before .if1 .left) (c .before .before .find .ensures .0)
+returns c = c .read-text .ensures ∙ rw (sub-zero, c .before .before .trimmed-end .ensures .0)
 
 pub read-spec : {M : Type 1} → statement M
 read-spec =
     tie.close
     (tie.spec
-    returns
-    find-requires
-    sub-statement
-    part-statement-start
-    part-statement-end
-    statement-requires
-    returns-2)
+    trimmed-end-requires
+    sub-read-text
+    part-read-text-start
+    part-read-text-end
+    read-text-requires
+    returns)

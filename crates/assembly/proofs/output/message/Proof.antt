@@ -1,9 +1,38 @@
+-- What is said of each kind of line.
+use native.Mathlib.Omega.{arith}
 use Rattle.line.specs.Text.{bytes}
 use Rattle.assembly.specs.Message.{messageRoom, messageOf}
 use Rattle.writing.proofs.Writing.{nothing-written}
 use borrow.Author.Needs.{needs}
 use Rattle.assembly.proofs.output.message.Statement.{statement}
 use Rattle.assembly.proofs.output.message.Tie as tie
+
+enum-known-read : tie.Need-enum-known-read
+enum-known-read c = search needs
+
+slice-aggregate-say-found : tie.Need-slice-aggregate-say-found
+slice-aggregate-say-found c = search needs
+
+say-found-requires : tie.Need-say-found-requires
+say-found-requires c κs = search needs
+
+enum-known-read-2 : tie.Need-enum-known-read-2
+enum-known-read-2 c = search needs
+
+slice-aggregate-say-found-2 : tie.Need-slice-aggregate-say-found-2
+slice-aggregate-say-found-2 c = search needs
+
+say-found-requires-2 : tie.Need-say-found-requires-2
+say-found-requires-2 c κs = search needs
+
+enum-known-read-3 : tie.Need-enum-known-read-3
+enum-known-read-3 c = search needs
+
+slice-aggregate-say-found-3 : tie.Need-slice-aggregate-say-found-3
+slice-aggregate-say-found-3 c = search needs
+
+say-found-requires-3 : tie.Need-say-found-requires-3
+say-found-requires-3 c κs = search needs
 
 enum-told : tie.Need-enum-told
 enum-told c = search needs
@@ -17,90 +46,65 @@ say-requires c κs = search needs
 enum-told-2 : tie.Need-enum-told-2
 enum-told-2 c = search needs
 
-slice-aggregate-say-2 : tie.Need-slice-aggregate-say-2
-slice-aggregate-say-2 c = search needs
-
-say-requires-2 : tie.Need-say-requires-2
-say-requires-2 c κs = search needs
-
 enum-told-3 : tie.Need-enum-told-3
 enum-told-3 c = search needs
-
-slice-aggregate-say-3 : tie.Need-slice-aggregate-say-3
-slice-aggregate-say-3 c = search needs
-
-say-requires-3 : tie.Need-say-requires-3
-say-requires-3 c κs = search needs
-
-enum-told-4 : tie.Need-enum-told-4
-enum-told-4 c = search needs
-
-slice-aggregate-say-4 : tie.Need-slice-aggregate-say-4
-slice-aggregate-say-4 c = search needs
-
-say-requires-4 : tie.Need-say-requires-4
-say-requires-4 c κs = search needs
-
-enum-told-5 : tie.Need-enum-told-5
-enum-told-5 c = search needs
-
-enum-told-6 : tie.Need-enum-told-6
-enum-told-6 c = search needs
 
 same-length : tie.Need-same-length
 same-length c = search needs
 
 returns : tie.Need-returns
 unfolding bytes messageOf
-returns c = rw (c .before .before .before .before .before .enum-told .given .1) (c .before .before .say .ensures)
+returns c = rw (c .before .before .before .before .before .before .read .given .1) ((c .before .before .say-found .ensures .0, c .before .before .say-found .ensures .1 .0), c .before .before .say-found .ensures .1 .1)
 
 same-length-2 : tie.Need-same-length-2
 same-length-2 c = search needs
 
 returns-2 : tie.Need-returns-2
 unfolding bytes messageOf
-returns-2 c = rw (c .before .before .before .before .before .enum-told2 .given .1) (c .before .before .say2 .ensures)
+returns-2 c = rw (c .before .before .before .before .before .before .read2 .given .1) ((c .before .before .say-found2 .ensures .0, c .before .before .say-found2 .ensures .1 .0), c .before .before .say-found2 .ensures .1 .1)
 
 same-length-3 : tie.Need-same-length-3
 same-length-3 c = search needs
 
 returns-3 : tie.Need-returns-3
 unfolding bytes messageOf
-returns-3 c = rw (c .before .before .before .before .before .enum-told3 .given .1) (c .before .before .say3 .ensures)
+returns-3 c = rw (c .before .before .before .before .before .before .read3 .given .1) ((c .before .before .say-found3 .ensures .0, c .before .before .say-found3 .ensures .1 .0), c .before .before .say-found3 .ensures .1 .1)
 
 same-length-4 : tie.Need-same-length-4
 same-length-4 c = search needs
 
 returns-4 : tie.Need-returns-4
 unfolding bytes messageOf
-returns-4 c = rw (c .before .before .before .before .before .enum-told4 .given .1) (c .before .before .say4 .ensures)
+returns-4 c =
+    let e = c .before .before .say .ensures in
+    rw (c .before .before .before .before .before .enum-told .given .1) ((e .0 .0, omega arith), e .1)
 
 returns-5 : tie.Need-returns-5
 unfolding messageOf
-returns-5 c = rw (c .enum-told5 .given .1) (nothing-written (c .before .before .before .args .out .now) (c .before .before .before .args .at) messageRoom)
+returns-5 c = rw (c .enum-told2 .given .1) (nothing-written (c .before .before .before .before .args .out .now) (c .before .before .before .before .args .at) messageRoom)
 
 returns-6 : tie.Need-returns-6
 unfolding messageOf
-returns-6 c = rw (c .enum-told6 .given .1) (nothing-written (c .before .before .before .args .out .now) (c .before .before .before .args .at) messageRoom)
+returns-6 c = rw (c .enum-told3 .given .1) (nothing-written (c .before .before .before .before .args .out .now) (c .before .before .before .before .args .at) messageRoom)
 
 pub message-spec : {M : Type 1} → statement M
 message-spec =
     tie.close
     (tie.spec
+    enum-known-read
+    slice-aggregate-say-found
+    say-found-requires
+    enum-known-read-2
+    slice-aggregate-say-found-2
+    say-found-requires-2
+    enum-known-read-3
+    slice-aggregate-say-found-3
+    say-found-requires-3
     enum-told
     slice-aggregate-say
     say-requires
     enum-told-2
-    slice-aggregate-say-2
-    say-requires-2
     enum-told-3
-    slice-aggregate-say-3
-    say-requires-3
-    enum-told-4
-    slice-aggregate-say-4
-    say-requires-4
-    enum-told-5
-    enum-told-6
     same-length
     returns
     same-length-2

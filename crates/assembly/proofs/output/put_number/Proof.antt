@@ -1,3 +1,4 @@
+-- The digits of a number are put at their place.
 use mathlib.Core.Path.{sym}
 use native.Mathlib.Nat.{le-of-eq}
 use native.Mathlib.Omega.{arith}

@@ -1,3 +1,4 @@
+-- The bytes of a request, or nothing.
 use native.Mathlib.Omega.{arith}
 use Rattle.line.specs.Line.{requestSize, requestOf}
 use Rattle.writing.proofs.Writing.{nothing-written}

@@ -1,10 +1,9 @@
-use mathlib.Core.List.{_++_}
+-- A line named by its number, and a text after it.
 use native.Mathlib.Omega.{arith}
-use lib.ListN.{length-append}
 use Rattle.decimal.specs.Decimal.{decimal}
 use Rattle.line.specs.Text.{bytes}
 use Rattle.assembly.specs.Message.{said}
-use Rattle.writing.proofs.Writing.{Wrote, wrote-then}
+use Rattle.assembly.proofs.Putting.{three-put}
 use borrow.Author.Needs.{needs}
 use Rattle.assembly.proofs.output.say.Statement.{statement}
 use Rattle.assembly.proofs.output.say.Tie as tie
@@ -27,17 +26,16 @@ same-length c = search needs
 returns : tie.Need-returns
 unfolding bytes said
 returns c =
-    let a = c .before .before .before .before .before .before .before .before .before .before .before .before .before .before .before .args in
-    let f = c .before .before .before .before .before .before .before .before .before .before .put in
-    let g = c .before .before .before .before .before .before .put-number in
+    let d = c .before .before .before .before .before .before in
+    let b = d .before .before .before .before in
+    let f = b .put in
+    let g = d .put-number in
     let h = c .before .before .put2 in
-    let first : Wrote (a .out .now) (f .last .1 .0) (a .at) (bytes "line ") = record { bytes = f .ensures .1; room = omega arith } in
-    let second : Wrote (f .last .1 .0) (g .last .1 .0) (f .result) (decimal (a .number)) = record { bytes = g .ensures .1; room = omega arith } in
-    let third : Wrote (g .last .1 .0) (h .last .1 .0) (g .result) (a .text .now) = record { bytes = h .ensures .1; room = omega arith } in
-    let rest = wrote-then second third (g .ensures .0 .0) in
-    let size = length-append (bytes "line ") (decimal (a .number) ++ a .text .now) in
-    let size-rest = length-append (decimal (a .number)) (a .text .now) in
-    (omega arith, wrote-then first rest (f .ensures .0) .bytes)
+    let a = b .before .before .before .before .before .args in
+    let p =
+    three-put (a .out .now) (bytes "line ") (decimal (a .number)) (a .at) _ (f .ensures .1) (f .ensures .0)
+    (a .text .now) _ (omega arith) (g .ensures .1) (g .ensures .0 .0) (h .ensures .1) (h .ensures .0) in
+    ((p .0, omega arith), p .1)
 
 pub say-spec : {M : Type 1} → statement M
 say-spec =

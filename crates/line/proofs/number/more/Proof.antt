@@ -1,3 +1,4 @@
+-- One more digit.
 use native.Mathlib.Omega.{arith}
 use borrow.Author.Needs.{needs}
 use Rattle.line.proofs.Digits.{more-below, more-above, more-fits, more-full}

@@ -1,9 +1,11 @@
+-- All lines of an input, line by line.
 use Prim.Native.Nat.{_-_, _≤_}
+use mathlib.Core.Path.{refl}
 use native.Mathlib.Omega.{arith}
 use lib.ListN.{length}
-use Rattle.assembly.proofs.Assembled.{Assembled, assembled-none, assembled-more, all-requests, all-messages, all-lines, all-used}
-use Rattle.assembly.proofs.assemble_all.Statement.{statement}
-use Rattle.assembly.proofs.assemble_all.Tie as tie
+use Rattle.assembly.proofs.Assembled.{Assembled, assembled-none, assembled-more, all-requests, all-messages, all-done}
+use Rattle.assembly.proofs.assemble_lines.Statement.{statement}
+use Rattle.assembly.proofs.assemble_lines.Tie as tie
 
 abbrev Inv-loop : tie.InvT-loop
 Inv-loop input number out₀ errors₀ used₀ next₀ requests₀ messages₀ end₀ out errors used next requests messages end =
@@ -17,7 +19,7 @@ find-requires : tie.Need-find-requires Inv-loop μ-loop
 find-requires c κs = omega arith
 
 loop-holds : tie.Need-loop-holds Inv-loop μ-loop
-loop-holds c = assembled-none (omega arith) (omega arith) (omega arith) (c .find .ensures .0) (omega arith)
+loop-holds c = assembled-none (c .before .before .before .before .pre) (c .find .ensures .0) (omega arith)
 
 sub-read : tie.Need-sub-read Inv-loop μ-loop
 sub-read c = omega arith
@@ -33,6 +35,15 @@ read-requires c κs = tt
 
 request-requires : tie.Need-request-requires Inv-loop μ-loop
 request-requires c κs = omega arith
+
+sub-message : tie.Need-sub-message Inv-loop μ-loop
+sub-message c = omega arith
+
+part-message-start : tie.Need-part-message-start Inv-loop μ-loop
+part-message-start c = omega arith
+
+part-message-end : tie.Need-part-message-end Inv-loop μ-loop
+part-message-end c = omega arith
 
 message-requires : tie.Need-message-requires Inv-loop μ-loop
 message-requires c κs = omega arith
@@ -51,10 +62,12 @@ loop-less c = omega arith
 
 loop-again : tie.Need-loop-again Inv-loop μ-loop
 loop-again c =
-    let l = c .before .before .before .before .before .before .before .before .before .before .before .before .loop in
-    let q = c .before .before .before .before .before .before .before .request in
     let m = c .before .before .before .message in
-    assembled-more (l .inv) (omega arith) (c .before .before .before .before .before .before .before .before .before .read .ensures)
+    let b = c .before .before .before .before .before .before .before .before in
+    let q = b .request in
+    let r = b .before .before in
+    let l = r .before .before .before .loop in
+    assembled-more (l .inv) (omega arith) refl (r .read .ensures)
     (q .ensures .0 .0) (q .ensures .0 .1) (q .ensures .1) (m .ensures .0 .0) (m .ensures .0 .1) (m .ensures .1) (c .find2 .ensures .0) (omega arith)
 
 same-length : tie.Need-same-length Inv-loop μ-loop
@@ -68,10 +81,10 @@ returns c =
     let p = c .before .loop .inv in
     let none : length (c .before .before .before .before .before .before .args .input .now) ≤ c .before .loop .end = omega arith in
     rw (all-requests p none, all-messages p none)
-    ((all-used p none, all-lines p none), ((p .requests-size, p .messages-size), ((omega arith, omega arith, omega arith), (p .requests-wrote .bytes, p .messages-wrote .bytes))))
+    ((all-done p none, omega arith), ((omega arith, omega arith), (p .requests-wrote .bytes, p .messages-wrote .bytes)))
 
-pub assemble-all-spec : {M : Type 1} → statement M
-assemble-all-spec =
+pub assemble-lines-spec : {M : Type 1} → statement M
+assemble-lines-spec =
     tie.close
     (tie.spec
     Inv-loop
@@ -83,6 +96,9 @@ assemble-all-spec =
     part-read-end
     read-requires
     request-requires
+    sub-message
+    part-message-start
+    part-message-end
     message-requires
     add-next
     add-used

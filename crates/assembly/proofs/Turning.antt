@@ -1,0 +1,86 @@
+-- One turn: a text is gathered, its lines are read, and the start of the next one is kept.
+use Prim.Native.Nat.{ℕ, _+_, _-_, _≤_, min}
+use mathlib.Core.Path.{_≡_, refl, sym, ap, _∙_}
+use mathlib.Core.Bool.{Bool, true, false}
+use mathlib.Core.List.{List, [], _∷_, _++_, append-assoc, append-nil}
+use native.Mathlib.Nat.{sub-zero}
+use native.Mathlib.Omega.{arith}
+use lib.ListN.{length, take, drop, length-append, length-take, length-drop}
+use lib.Seq.{drop-at, length-take-le, take-add}
+use lib.Dec.{eqb}
+use Rattle.writing.specs.Overwrite.{overwrite}
+use Rattle.assembly.specs.Batch.{newline, linesFrom, restFrom, rest, used, requestsOf, messagesOf, requestsIn, messagesIn, doneOf, fits, taken}
+use Rattle.assembly.specs.Pieces.{longestStart, startOf}
+use Rattle.assembly.specs.Turn.{gathered, textEnd, textIn, Outcome, outcome}
+use Rattle.assembly.specs.declared.Done.{Done}
+use Rattle.assembly.specs.declared.Turn.{Turn}
+use Rattle.assembly.proofs.Splitting.{rest-end, rest-byte}
+
+-- what is left of a text is its end
+record Ends (all end : List ℕ) : Type 0 where
+  front : List ℕ
+  split : all ≡ front ++ end
+
+ends : (text line : List ℕ) → Ends (line ++ text) (restFrom line text)
+unfolding restFrom
+ends [] line = record { front = []; split = append-nil line }
+ends (b ∷ text) line = go (ends text []) (ends text (line ++ (b ∷ []))) (eqb b newline) refl
+  where
+    go : Ends text (restFrom [] text) → Ends ((line ++ (b ∷ [])) ++ text) (restFrom (line ++ (b ∷ [])) text)
+        → (t : Bool) → eqb b newline ≡ t → Ends (line ++ (b ∷ text)) (restFrom line (b ∷ text))
+    go f g true e =
+        rw (rest-end line b text e)
+        record { front = line ++ (b ∷ f .front); split = ap (λ (l : List ℕ). line ++ (b ∷ l)) (f .split) ∙ sym (append-assoc line (b ∷ f .front) (rest text)) }
+    go f g false e = rw (rest-byte line b text e) record { front = g .front; split = sym (append-assoc line (b ∷ []) text) ∙ g .split }
+
+pub rest-left : (text : List ℕ) → drop (used text) text ≡ rest text
+rest-left text =
+    let p = ends text [] in
+    let size : length text ≡ length (p .front) + length (rest text) = ap length (p .split) ∙ length-append (p .front) (rest text) in
+    let front : length (p .front) ≡ used text = omega arith in
+    ap (drop (used text)) (p .split) ∙ drop-at (p .front) (rest text) (used text) front
+
+module _ (input : List ℕ) (kept got number : ℕ) (out errors : List ℕ) (end : ℕ) (buffer : List ℕ)
+    (last : end ≡ textEnd (length input) kept got) (within : end ≤ length buffer) (holds : buffer ≡ gathered input kept got)
+    {room : Bool} (told : room ≡ fits end number (length out) (length errors)) where
+  text : textIn input kept got ≡ take (end - 0) buffer
+  text = rw (sub-zero end, last, holds)
+
+  size : length (take (end - 0) buffer) ≡ end
+  size = rw (sub-zero end) (length-take-le end buffer within)
+
+  pub room-left : room ≡ true → fits (length (take (end - 0) buffer)) number (length out) (length errors) ≡ true
+  room-left e = rw size (sym told ∙ e)
+
+  pub no-turn : room ≡ false
+      → record { turn = record { kept = 0; next = number; requests = 0; messages = 0 }; input = buffer; out = out; errors = errors }
+      ≡ outcome input kept got number out errors
+  unfolding outcome taken doneOf linesFrom restFrom requestsOf messagesOf
+  no-turn e =
+      let none : fits (length (take (end - 0) buffer)) number (length out) (length errors) ≡ false = rw size (sym told ∙ e) in
+      let same : number + 0 ≡ number = omega arith in
+      rw (text, none, same, holds)
+
+  module _ (e : room ≡ true) {done : Done} (read : done ≡ doneOf number (take (end - 0) buffer)) where
+    left : take (end - done .used) (drop (done .used) buffer) ≡ rest (take (end - 0) buffer)
+    unfolding doneOf
+    left =
+        let here : done .used ≡ used (take (end - 0) buffer) = ap (λ (d : Done). d .used) read in
+        let before : done .used ≤ end = omega (arith, size) in
+        let all : done .used + (end - done .used) ≡ end - 0 = omega arith in
+        let split : take (end - 0) buffer ≡ take (done .used) buffer ++ take (end - done .used) (drop (done .used) buffer) =
+        rw (← all) (take-add (done .used) (end - done .used) buffer) in
+        let front : length (take (done .used) buffer) ≡ done .used = length-take-le (done .used) buffer (omega arith) in
+        sym (ap (drop (done .used)) split ∙ drop-at (take (done .used) buffer) (take (end - done .used) (drop (done .used) buffer)) (done .used) front)
+        ∙ ap (λ (n : ℕ). drop n (take (end - 0) buffer)) here
+        ∙ rest-left (take (end - 0) buffer)
+
+    pub a-turn : {k : ℕ} {input' out' errors' : List ℕ} → k ≡ min longestStart (end - done .used)
+        → input' ≡ overwrite buffer 0 (take longestStart (take (end - done .used) (drop (done .used) buffer)))
+        → out' ≡ overwrite out 0 (requestsIn (take (end - 0) buffer)) → errors' ≡ overwrite errors 0 (messagesIn number (take (end - 0) buffer))
+        → record { turn = record { kept = k; next = done .next; requests = done .requests; messages = done .messages }; input = input'; out = out'; errors = errors' }
+        ≡ outcome input kept got number out errors
+    unfolding outcome taken
+    a-turn {k} few p q r =
+        let start : length (startOf (take (end - 0) buffer)) ≡ k = rw (← left) (simp (length-take, length-drop) (omega arith)) in
+        rw (text, room-left e, ← read, p, q, r, left, start, ← holds)

@@ -1,0 +1,47 @@
+-- Where the text of a buffer ends, in each of four cases.
+use native.Mathlib.Omega.{arith}
+use Rattle.assembly.proofs.Gathering.{nothing-free, input-ended, buffer-full, some-read}
+use borrow.Author.Needs.{needs}
+use Rattle.assembly.proofs.gather.Statement.{statement}
+use Rattle.assembly.proofs.gather.Tie as tie
+
+returns : tie.Need-returns
+returns c = nothing-free _ _ _ (c .if1 .taken)
+
+slice-write-input : tie.Need-slice-write-input
+slice-write-input c = search needs
+
+add-result : tie.Need-add-result
+add-result c = search needs
+
+same-length : tie.Need-same-length
+same-length c = search needs
+
+returns-2 : tie.Need-returns-2
+returns-2 c = input-ended _ _ _ (omega arith) (c .if2 .taken)
+
+sub-if3 : tie.Need-sub-if3
+sub-if3 c = search needs
+
+returns-3 : tie.Need-returns-3
+returns-3 c = buffer-full _ _ _ (c .before .if2 .left) (omega arith) (c .if3 .taken)
+
+add-result-2 : tie.Need-add-result-2
+add-result-2 c = search needs
+
+returns-4 : tie.Need-returns-4
+returns-4 c = some-read _ _ _ (c .before .if2 .left) (omega arith) (omega arith)
+
+pub gather-spec : {M : Type 1} → statement M
+gather-spec =
+    tie.close
+    (tie.spec
+    returns
+    slice-write-input
+    add-result
+    same-length
+    returns-2
+    sub-if3
+    returns-3
+    add-result-2
+    returns-4)
