@@ -19,7 +19,7 @@ run: programs
 	@bash -o pipefail -c 'target/assemble < examples/eight.txt | target/benchrun'
 
 programs: target/assemble target/benchrun
-	@rt check assemble benchrun > target/programs.log 2>&1 || { tail -n 20 target/programs.log; exit 1; }
+	@programs/prove check assemble benchrun
 
 target/assemble target/benchrun: programs/launch.c
 	@mkdir -p target && gcc -std=c11 -Wall -Wextra -Werror -O2 $< -o $@
@@ -36,7 +36,7 @@ target/libpoheldu.a: target/staticlib/libcapi.a
 	cp $< $@
 
 target/staticlib/libcapi.a: $(library_sources)
-	rt staticlib capi
+	@programs/prove staticlib capi
 
 # The search is guided by what runs in the second implementation and the harness, which are built for that; the library is as it is.
 fuzz: fuzz-tools lib
@@ -59,8 +59,8 @@ expected: lib
 	target/tests/release/expected < crates/benchrun/stdin > crates/benchrun/stdout
 	target/tests/release/conformance < crates/conformance/stdin > crates/conformance/stdout
 
-bench:
-	@mkdir -p target && { rt staticlib capi && rt check benchrun; } > target/bench.log 2>&1 || { tail -n 20 target/bench.log; exit 1; }
+bench: lib
+	@programs/prove check benchrun
 	@cd tests && cargo build --release --offline --quiet
 	@target/tests/release/bench target/bin/benchrun
 
