@@ -75,7 +75,9 @@ fn ones_of(byte: u8) -> u8
 // How many bits of at most sixteen bytes are set. A sum in a byte compiles to sixteen additions at once.
 fn count_chunk(bitmap: &[u8], from: usize, bytes: usize) -> u8
     requires { ⌜ (from + bytes ≤ length (now bitmap)) × (bytes ≤ 16) ⌝ }
-    ensures { λ r. ⌜ countSet (now (bitmap .entry)) (8 * from) + r ≡ countSet (now (bitmap .entry)) (8 * (from + bytes)) ⌝ }
+    ensures { λ r.
+        let b = now (bitmap .entry) in
+        ⌜ countSet b (8 * from) + r ≡ countSet b (8 * (from + bytes)) ⌝ }
 {
     let mut total: u8 = 0;
     let mut i: usize = 0;

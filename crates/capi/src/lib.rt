@@ -1,11 +1,10 @@
 // The C interface (include/poheldu.h): a buffer passes as a pointer and a length. Each function only turns answers into numbers.
 ghost use mathlib.Core.Path.{_≡_};
 ghost use lib.ListN.{length};
-ghost use Rattle.geometry.specs.Layout.{layoutOf};
 ghost use Rattle.answer.specs.Reply.{replyOf};
-ghost use Rattle.rules.specs.Open.{setup, openReply, opened};
-ghost use Rattle.rules.specs.Outcome.{reply, metadataAfter, heapAfter};
-ghost use Rattle.rules.specs.Serve.{serve};
+ghost use Rattle.rules.specs.Open.{setup};
+ghost use Rattle.rules.specs.Serve.{lent};
+ghost use Rattle.rules.specs.Call.{call, opening};
 ghost use Rattle.vote.specs.Decide.{decide, tally, outputAfter, NamesWinner};
 ghost use Rattle.capi.specs.Numbers.{replyIn, tallyIn, metadataBytes};
 use answer::Answer;
@@ -37,8 +36,9 @@ fn in_numbers(answer: Answer) -> PohelduAnswer
 
 #[no_mangle]
 pub extern "C" fn poheldu_open(heap: &[u8], metadata: &mut [u8], z: u32, w: u32) -> PohelduAnswer
-    ensures { λ r. ⌜ replyIn r ≡ openReply (length (now (heap .entry))) (length (now (metadata .entry))) (setup z w) ⌝ }
-    ensures { λ _. ⌜ now (metadata .exit) ≡ opened (length (now (heap .entry))) (now (metadata .entry)) (setup z w) ⌝ }
+    ensures { λ r.
+        let called = opening (now (heap .entry)) (now (metadata .entry)) (setup z w) in
+        ⌜ (replyIn r ≡ called .answer) × (now (metadata .exit) ≡ called .metadata) ⌝ }
 {
     in_numbers(heap::open(heap, metadata, z, w))
 }
@@ -50,9 +50,10 @@ pub extern "C" fn poheldu_serve(
     request: &[u8],
     source: &[u8],
 ) -> PohelduAnswer
-    ensures { λ r. ⌜ replyIn r ≡ reply (layoutOf (length (now (heap .entry)))) (serve (length (now (heap .entry))) (now (metadata .entry)) (now (request .entry)) (now (source .entry))) ⌝ }
-    ensures { λ _. ⌜ now (metadata .exit) ≡ metadataAfter (layoutOf (length (now (heap .entry)))) (now (metadata .entry)) (serve (length (now (heap .entry))) (now (metadata .entry)) (now (request .entry)) (now (source .entry))) ⌝ }
-    ensures { λ _. ⌜ now (heap .exit) ≡ heapAfter (now (heap .entry)) (serve (length (now (heap .entry))) (now (metadata .entry)) (now (request .entry)) (now (source .entry))) ⌝ }
+    ensures { λ r.
+        let called = call (now (heap .entry)) (now (metadata .entry)) (now (request .entry)) (lent (now (source .entry))) in
+        ⌜ (replyIn r ≡ called .answer) × (now (metadata .exit) ≡ called .metadata)
+        × (now (heap .exit) ≡ called .heap) ⌝ }
 {
     in_numbers(heap::serve(heap, metadata, request, source))
 }
@@ -64,10 +65,11 @@ pub extern "C" fn poheldu_vote(
     block_len: usize,
     output: &mut [u8],
 ) -> PohelduVerdict
-    ensures { λ r. ⌜ tallyIn r ≡ tally (decide (now (blocks .entry)) replicas «block_len» (length (now (output .entry)))) (r .replica) ⌝ }
+    ensures { λ r.
+        let d = decide (now (blocks .entry)) replicas «block_len» (length (now (output .entry))) in
+        ⌜ (tallyIn r ≡ tally d (r .replica)) × (now (output .exit) ≡ outputAfter d (now (output .entry))) ⌝ }
     // Which of the winners is named is open: the rules let it be any one.
     ensures { λ r. ⌜ NamesWinner (tallyIn r) ⌝ }
-    ensures { λ _. ⌜ now (output .exit) ≡ outputAfter (decide (now (blocks .entry)) replicas «block_len» (length (now (output .entry)))) (now (output .entry)) ⌝ }
 {
     match vote::vote(blocks, replicas, block_len, output) {
         Verdict::Agreed {

@@ -1,15 +1,11 @@
 -- What the header of a case says, and what its opening leaves.
 use Prim.Native.Nat.{ℕ, _*_, min}
 use mathlib.Core.List.{List}
-use lib.ListN.{length, take, drop}
-use Rattle.words.specs.Word.{wordOf}
+use Rattle.words.specs.Word.{wordAt}
 use Rattle.geometry.specs.Layout.{layoutOf, metadataLength}
-use Rattle.rules.specs.Open.{setup, opened}
-use Rattle.replay.specs.Batch.{State}
+use Rattle.rules.specs.Open.{setup}
+use Rattle.rules.specs.Call.{State, opening}
 use Rattle.conformance.specs.declared.Case.{Case}
-
-abbrev pub wordAt : List ℕ → ℕ → ℕ
-wordAt header at = wordOf (take 4 (drop at header))
 
 -- the lengths are cut to what the program has room for
 abbrev pub caseOf : List ℕ → Case
@@ -25,4 +21,4 @@ caseOf header =
 
 -- what the requests are served on: the heap as it was, and the metadata as the opening leaves it
 abbrev pub openedState : List ℕ → List ℕ → ℕ → ℕ → State
-openedState heap metadata z w = record { heap = heap; metadata = opened (length heap) metadata (setup z w) }
+openedState heap metadata z w = record { heap = heap; metadata = opening heap metadata (setup z w) .metadata }

@@ -12,9 +12,10 @@ ghost use Prim.Native.Nat.{_+_, _≤_};
 ghost use lib.ListN.{length};
 ghost use Rattle.answer.specs.Reply.{Reply};
 ghost use Rattle.writing.specs.Overwrite.{overwrite};
-ghost use Rattle.rules.specs.Open.{setup, openReply};
-ghost use Rattle.replay.specs.Batch.{State, Batch, stateOf, batchOf};
-ghost use Rattle.conformance.specs.Case.{wordAt, caseOf, openedState};
+ghost use Rattle.rules.specs.Open.{setup};
+ghost use Rattle.rules.specs.Call.{State, stateOf, opening};
+ghost use Rattle.replay.specs.Batch.{Batch, batchOf};
+ghost use Rattle.conformance.specs.Case.{caseOf, openedState};
 
 // The lengths of a case's heap, metadata and requests, and its seeds.
 struct Case {
@@ -32,26 +33,18 @@ struct Ran {
     written: usize,
 }
 
-fn word_at(header: &[u8], at: usize) -> u32
-    requires { ⌜ at + 4 ≤ length (now header) ⌝ }
-    ensures { λ r. ⌜ r ≡ wordAt (now (header .entry)) at ⌝ }
-{
-    words::get(&header[at..at + 4])
-}
-
 // Reads a header. No heap of at most 98,304 bytes has more than 266 bytes of metadata, so its length is never cut.
 fn case_of(header: &[u8]) -> Case
-    requires { ⌜ length (now header) ≡ 16 ⌝ }
     ensures { λ r. ⌜ r ≡ caseOf (now (header .entry)) ⌝ }
     ensures { λ r. ⌜ (r .heap ≤ 98304) × (r .metadata ≤ 4096) × (r .requests ≤ 16384) ⌝ }
 {
-    let heap = least(word_at(header, 0) as usize, 98304);
-    let requests = 16 * least(word_at(header, 12) as usize, 1024);
+    let heap = least(words::get(header, 0) as usize, 98304);
+    let requests = 16 * least(words::get(header, 12) as usize, 1024);
     Case {
         heap,
         metadata: least(Plan::of(heap).metadata, 4096),
-        z: word_at(header, 4),
-        w: word_at(header, 8),
+        z: words::get(header, 4),
+        w: words::get(header, 8),
         requests,
     }
 }
@@ -59,7 +52,7 @@ fn case_of(header: &[u8]) -> Case
 // Opens the heap, and serves the requests whatever the opening answered.
 fn run(heap: &mut [u8], metadata: &mut [u8], z: u32, w: u32, requests: &[u8], out: &mut [u8]) -> Ran
     ensures { λ r.
-        let opened : Reply = openReply (length (now (heap .entry))) (length (now (metadata .entry))) (setup z w) in
+        let opened : Reply = opening (now (heap .entry)) (now (metadata .entry)) (setup z w) .answer in
         ⌜ _≡_ {A = Reply} (record { number = r .number; value = r .value }) opened ⌝ }
     ensures { λ r.
         let s : State = openedState (now (heap .entry)) (now (metadata .entry)) z w in

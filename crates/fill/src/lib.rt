@@ -8,8 +8,8 @@ ghost use lib.ListN.{length, replicate};
 ghost use lib.Dec.{ltb};
 ghost use Rattle.bytes.specs.Bytes.{indexOf};
 ghost use Rattle.request.specs.declared.Kind.the-variants.{String, Padded};
-ghost use Rattle.writing.specs.Overwrite.{clip};
-ghost use Rattle.rules.specs.Object.{contentOf};
+ghost use Rattle.writing.specs.Overwrite.{overwrite};
+ghost use Rattle.rules.specs.Object.{writes};
 
 const BLOCK: usize = 32;
 
@@ -55,8 +55,9 @@ fn find_zero(source: &[u8], count: usize) -> usize
 
 // Writes the source through its first zero byte, as far as it fits. Nothing past what fits is looked at.
 fn write_string(target: &mut [u8], source: &[u8]) -> usize
-    ensures { λ r. ⌜ r ≡ min (length (contentOf String (now (source .entry)))) (length (now (target .entry))) ⌝ }
-    ensures { λ _. ⌜ now (target .exit) ≡ clip (contentOf String (now (source .entry))) (now (target .entry)) ⌝ }
+    ensures { λ r.
+        let text = writes String (now (source .entry)) (length (now (target .entry))) in
+        ⌜ (r ≡ length text) × (now (target .exit) ≡ overwrite (now (target .entry)) 0 text) ⌝ }
 {
     let seen = least(source.len(), target.len());
     let end = find_zero(source, seen);
@@ -69,8 +70,9 @@ fn write_string(target: &mut [u8], source: &[u8]) -> usize
 
 // Writes the source before its first zero byte and then zeros, `count` bytes in all, as far as they fit.
 fn write_padded(target: &mut [u8], source: &[u8], count: u32) -> usize
-    ensures { λ r. ⌜ r ≡ min (length (contentOf (Padded count) (now (source .entry)))) (length (now (target .entry))) ⌝ }
-    ensures { λ _. ⌜ now (target .exit) ≡ clip (contentOf (Padded count) (now (source .entry))) (now (target .entry)) ⌝ }
+    ensures { λ r.
+        let text = writes (Padded count) (now (source .entry)) (length (now (target .entry))) in
+        ⌜ (r ≡ length text) × (now (target .exit) ≡ overwrite (now (target .entry)) 0 text) ⌝ }
 {
     let room = least(wide(count), target.len());
     let seen = least(source.len(), room);
@@ -82,8 +84,9 @@ fn write_padded(target: &mut [u8], source: &[u8], count: u32) -> usize
 
 // Writes what a copy of this kind writes, as far as it fits.
 pub fn write(target: &mut [u8], source: &[u8], kind: Kind) -> usize
-    ensures { λ r. ⌜ r ≡ min (length (contentOf kind (now (source .entry)))) (length (now (target .entry))) ⌝ }
-    ensures { λ _. ⌜ now (target .exit) ≡ clip (contentOf kind (now (source .entry))) (now (target .entry)) ⌝ }
+    ensures { λ r.
+        let text = writes kind (now (source .entry)) (length (now (target .entry))) in
+        ⌜ (r ≡ length text) × (now (target .exit) ≡ overwrite (now (target .entry)) 0 text) ⌝ }
 {
     match kind {
         Kind::Bytes => writing::write(target, source),

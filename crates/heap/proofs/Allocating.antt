@@ -1,47 +1,46 @@
 -- What each way through an allocation comes to.
-use Prim.Native.Nat.{ℕ, suc, _-_, _/_, _≤_, _<_}
+use Prim.Native.Nat.{ℕ, suc, _/_, _≤_, _<_}
 use mathlib.Core.Path.{_≡_, _∙_}
 use mathlib.Core.Bool.{false, _||_}
-use mathlib.Core.List.{List, _++_}
+use mathlib.Core.List.{List}
 use native.Mathlib.Omega.{arith}
 use borrow.Author.Tests.{le-leb, lt-leb, lt-ltb, le-ltb, eq-eqb, ne-eqb}
 use lib.Dec.{eqb}
-use lib.ListN.{length, take, drop}
 use Rattle.mwc.specs.declared.Generator.{Generator}
 use Rattle.geometry.specs.declared.Layout.{Layout}
 use Rattle.geometry.specs.declared.Part.{Part}
-use Rattle.geometry.specs.Layout.{classes, slots, classOf, slotStart, metadataLength, partOf}
+use Rattle.geometry.specs.Layout.{classes, slots, classOf, slotStart, partOf}
 use Rattle.geometry.proofs.Geometry.{class-le}
 use Rattle.bitmap.specs.Bitmap.{setSlot, countSet}
 use Rattle.answer.specs.declared.Refusal.the-variants.{UnsupportedSize, ClassTooSmall, ClassAtCapacity}
 use Rattle.answer.specs.Reply.{served}
 use Rattle.rules.specs.declared.Found.{Found}
 use Rattle.writing.specs.Overwrite.{overwrite}
-use Rattle.rules.specs.Metadata.{generatorOf, fieldsOf, bitmapOf}
+use Rattle.rules.specs.Metadata.{generatorOf, withGenerator, bitmapOf}
+use Rattle.heap.specs.Relied.{bitsOf}
 use Rattle.rules.specs.Outcome.{refused, reply, metadataAfter}
 use Rattle.rules.specs.Allocate.{draws, probe, taken, allocate}
-use Rattle.heap.proofs.Part.{part-bitmap, bitmap-back}
+use Rattle.heap.proofs.Part.{part-bits, part-changed}
 use Rattle.probe.proofs.Probe.{probe-le}
 
 -- ---- taking a slot
 
 module _ (G : Layout) (m : List ℕ) (c : ℕ) {p : Part} {g : Generator} {found : Found} (of : p ≡ partOf G c) (seeds : g ≡ generatorOf m)
-    (drew : found ≡ probe (take (p .end - p .start) (drop (p .start) m)) (p .slots) g 0 draws) where
-  -- the part that is lent to the search is the bitmap
+    (drew : found ≡ probe (bitsOf p m) (p .slots) g 0 draws) where
+  -- the search is that of the class's bitmap
   chosen : found ≡ probe (bitmapOf G c m) (slots G c) (generatorOf m) 0 draws
-  chosen = drew ∙ rw (part-bitmap G c of, of, seeds)
+  chosen = drew ∙ rw (part-bits G c of m, of, seeds)
 
-  -- it is one of the class's, or the number of them
+  -- it finds one of the class's slots, or the number of them
   pub taken-slot : 0 < slots G c → found .slot ≤ slots G c
   taken-slot h = rw chosen (probe-le (bitmapOf G c m) (slots G c) h (generatorOf m) 0 draws)
 
-  module _ (fits : length m ≡ metadataLength G) {ys : List ℕ} (same : length ys ≡ length (take (p .end - p .start) (drop (p .start) m)))
-      (put : ys ≡ setSlot (take (p .end - p .start) (drop (p .start) m)) (p .slots) (found .slot)) where
-    -- with the bitmap back in its place and the generator stored the slot is taken
-    pub taken-done : {v : ℕ} → v ≡ slotStart G c (found .slot)
-        → (served v ≡ reply G (taken G m c))
-        × (overwrite (take (p .start) m ++ (ys ++ drop (p .end - p .start) (drop (p .start) m))) 0 (fieldsOf (found .generator)) ≡ metadataAfter G m (taken G m c))
-    taken-done e = (rw (e, chosen), rw (bitmap-back G c of m (λ b k. setSlot b k (found .slot)) fits put same, chosen))
+  -- with its bit set and the generator stored the slot is taken
+  pub taken-done : {v : ℕ} {m′ m″ : List ℕ} → v ≡ slotStart G c (found .slot)
+      → m′ ≡ overwrite m (p .start) (setSlot (bitsOf p m) (p .slots) (found .slot))
+      → m″ ≡ withGenerator m′ (found .generator)
+      → (served v ≡ reply G (taken G m c)) × (m″ ≡ metadataAfter G m (taken G m c))
+  taken-done e f q = (rw (e, chosen), q ∙ rw (f, part-changed G c of m (λ b k. setSlot b k (found .slot)), chosen))
 
 -- ---- which size is served
 

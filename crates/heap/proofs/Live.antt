@@ -4,7 +4,6 @@ use mathlib.Core.Path.{_≡_, sym, _∙_}
 use mathlib.Core.Bool.{Bool, true, false}
 use mathlib.Core.List.{List}
 use native.Mathlib.Omega.{arith}
-use lib.ListN.{take, drop}
 use Rattle.geometry.specs.declared.Layout.{Layout}
 use Rattle.geometry.specs.declared.Location.{Location}
 use Rattle.geometry.specs.declared.Part.{Part}
@@ -14,15 +13,16 @@ use Rattle.geometry.proofs.Slots.{slot-ends}
 use Rattle.bitmap.specs.Bitmap.{isSet}
 use Rattle.bitmap.proofs.Slot.{is-set}
 use Rattle.rules.specs.Metadata.{bitmapOf}
+use Rattle.heap.specs.Relied.{bitsOf}
 use Rattle.rules.specs.Object.{isLive, space}
-use Rattle.heap.proofs.Part.{part-bitmap}
+use Rattle.heap.proofs.Part.{part-bits}
 
 -- the code tests the part that is the class's bitmap
 pub tested-live : (G : Layout) (m : List ℕ) (offset : ℕ) {l : Location} {p : Part} {t : Bool} → l ≡ locate G offset
     → p ≡ partOf G (l .class)
-    → t ≡ isSet (take (p .end - p .start) (drop (p .start) m)) (p .slots) (l .slot)
+    → t ≡ isSet (bitsOf p m) (p .slots) (l .slot)
     → isLive G m (locate G offset) ≡ t
-tested-live G m offset {l} at of tested = sym (tested ∙ rw (part-bitmap G (l .class) of, of, at))
+tested-live G m offset {l} at of tested = sym (tested ∙ rw (part-bits G (l .class) of m, of, at))
 
 module _ (G : Layout) (m : List ℕ) (offset : ℕ) where
   -- a live slot is one of its class's

@@ -1,53 +1,38 @@
--- What each way through an opening comes to: the reply, and the metadata afterwards.
-use Prim.Native.Nat.{ℕ, zero, suc, _-_}
+-- What each way through an opening comes to: the answer, and the metadata afterwards.
+use Prim.Native.Nat.{ℕ}
 use mathlib.Core.Path.{_≡_, refl}
-use mathlib.Core.Bool.{true, false, _||_}
+use mathlib.Core.Bool.{true, false}
 use mathlib.Core.List.{List}
-use native.Mathlib.Nat.{sub-zero, zero-sub, suc-sub-suc}
-use borrow.Author.Tests.{eq-eqb, ne-eqb}
-use lib.Dec.{eqb}
-use lib.ListN.{length, drop, replicate}
+use borrow.Author.Tests.{ne-eqb}
+use lib.ListN.{length, replicate}
+use Rattle.mwc.specs.Draw.{isUnusable}
 use Rattle.geometry.specs.declared.Layout.{Layout}
-use Rattle.geometry.specs.Layout.{layoutOf, header, metadataLength}
-use Rattle.answer.specs.declared.Refusal.the-variants.{ZeroSeed, HeapLength, MetadataLength}
-use Rattle.answer.specs.Reply.{Reply, served, refusedBy}
-use Rattle.writing.specs.Overwrite.{overwrite}
-use Rattle.rules.specs.Metadata.{fieldsOf}
-use Rattle.rules.specs.Open.{setup, openReply, opened}
+use Rattle.answer.specs.declared.Refusal.{Refusal}
+use Rattle.answer.specs.declared.Refusal.the-variants.{ZeroSeed}
+use Rattle.answer.specs.Reply.{Reply, numberOf, served, refusedBy}
+use Rattle.answer.proofs.Numbers.{refusal-number}
+use Rattle.rules.specs.declared.Judged.the-variants.{Laid, Unfit}
+use Rattle.rules.specs.Judge.{judge}
+use Rattle.rules.specs.Metadata.{withGenerator}
+use Rattle.rules.specs.Open.{Setup}
+use Rattle.rules.specs.Call.{opening}
+use Rattle.rules.proofs.Serving.{laid-fits}
 
--- what is left of a run of zeros
-drop-zeros : (k n : ℕ) → drop k (replicate n 0) ≡ replicate {A = ℕ} (n - k) 0
-drop-zeros zero n = rw sub-zero
-drop-zeros (suc k) zero = rw zero-sub
-drop-zeros (suc k) (suc n) = rw suc-sub-suc (drop-zeros k n)
-
-module _ (h : ℕ) (m : List ℕ) (z w : ℕ) where
-  -- the contract's two clauses
+module _ (h m : List ℕ) (s : Setup) where
+  -- the contract
   abbrev Opens : Reply → List ℕ → Type 0
-  Opens r m′ = (r ≡ openReply h (length m) (setup z w)) × (m′ ≡ opened h m (setup z w))
+  Opens r m′ = (r ≡ opening h m s .answer) × (m′ ≡ opening h m s .metadata)
 
-  module _ {G : Layout} (laid : G ≡ layoutOf h) where
-    -- no heap has this length
-    pub no-heap : G .region ≡ 0 → Opens (refusedBy HeapLength) m
-    no-heap e = rw (eq-eqb (layoutOf h .region) 0 (rw laid at e)) (refl, refl)
+  -- a length is not allowed
+  pub unfit : {r : Refusal} → judge (length h) (length m) ≡ Unfit r → Opens (refusedBy r) m
+  unfit {r} e = rw (e, ne-eqb (numberOf r) 0 (refusal-number r)) (refl, refl)
 
-    module _ (some : G .region ≡ 0 → ⊥) where
-      heap-known : eqb (layoutOf h .region) 0 ≡ false
-      heap-known = ne-eqb (layoutOf h .region) 0 (rw laid at some)
+  module _ {G : Layout} (laid : judge (length h) (length m) ≡ Laid G) where
+    -- the seeds are not
+    pub no-seed : isUnusable (s .seeds) ≡ true → Opens (refusedBy ZeroSeed) m
+    no-seed e = rw (laid, e) (refl, refl)
 
-      -- the metadata is not as long as the heap's
-      pub other-length : (length m ≡ metadataLength G → ⊥) → Opens (refusedBy MetadataLength) m
-      other-length e = rw (heap-known, ne-eqb (length m) (metadataLength (layoutOf h)) (rw laid at e)) (refl, refl)
-
-      module _ (fits : length m ≡ metadataLength G) where
-        length-known : eqb (length m) (metadataLength (layoutOf h)) ≡ true
-        length-known = eq-eqb (length m) (metadataLength (layoutOf h)) (rw laid at fits)
-
-        -- a seed is 0
-        pub no-seed : eqb z 0 || eqb w 0 ≡ true → Opens (refusedBy ZeroSeed) m
-        no-seed e = rw (heap-known, length-known, e) (refl, refl)
-
-        -- all is in order: zeros, and then the fields over them
-        pub written : (z ≡ 0 → ⊥) → (w ≡ 0 → ⊥) → {zeros : List ℕ} → zeros ≡ replicate (length m) 0
-            → Opens (served 0) (overwrite zeros 0 (fieldsOf (setup z w .seeds)))
-        written e f q = rw (heap-known, length-known, ne-eqb z 0 e, ne-eqb w 0 f) (refl, rw (q, drop-zeros header, fits, laid))
+    -- all is in order: zeros, and the generator stored in them
+    pub written : isUnusable (s .seeds) ≡ false → {zeros : List ℕ} → zeros ≡ replicate (length m) 0
+        → Opens (served 0) (withGenerator zeros (s .seeds))
+    written e q = let (same, fits) = laid-fits (length h) (length m) laid in rw (laid, e, q, fits .metadata, same) (refl, refl)

@@ -4,15 +4,16 @@ use mathlib.Core.Path.{_≡_, refl, sym}
 use mathlib.Core.List.{List}
 use lib.ListN.{take-append-drop}
 use Rattle.geometry.specs.declared.Layout.{Layout}
+use Rattle.request.specs.declared.Kind.{Kind}
 use Rattle.rules.specs.Outcome.{Outcome, metadataAfter, heapAfter}
 use Rattle.rules.specs.Allocate.{allocate}
 use Rattle.rules.specs.Object.{free, remaining, copy}
 use Rattle.rules.proofs.Results.{Comes, refuses, serves, allocate-comes, free-comes, remaining-comes, copy-comes}
 
 -- a refusal leaves the heap and the metadata alone
-heap-left : (h : List ℕ) {o o′ : Outcome} → Comes o o′ → heapAfter h o ≡ h → h ≡ heapAfter h o′
-heap-left h (refuses r) e = refl
-heap-left h serves e = sym e
+heap-left : (G : Layout) (m h : List ℕ) {o o′ : Outcome} → Comes o o′ → heapAfter G m h o ≡ h → h ≡ heapAfter G m h o′
+heap-left G m h (refuses r) e = refl
+heap-left G m h serves e = sym e
 
 metadata-left : (G : Layout) (m : List ℕ) {o o′ : Outcome} → Comes o o′ → metadataAfter G m o ≡ m → m ≡ metadataAfter G m o′
 metadata-left G m (refuses r) e = refl
@@ -22,16 +23,16 @@ module _ (G : Layout) (m : List ℕ) where
   pub remaining-metadata : (offset : ℕ) → m ≡ metadataAfter G m (remaining G m offset)
   remaining-metadata offset = metadata-left G m (remaining-comes G m offset) refl
 
-  pub copy-metadata : (offset : ℕ) (content : List ℕ) → m ≡ metadataAfter G m (copy G m offset content)
-  copy-metadata offset content = metadata-left G m (copy-comes G m offset content) refl
+  pub copy-metadata : (offset : ℕ) (kind : Kind) (source : List ℕ) → m ≡ metadataAfter G m (copy G m offset kind source)
+  copy-metadata offset kind source = metadata-left G m (copy-comes G m offset kind source) refl
 
   module _ (h : List ℕ) where
-    pub allocate-heap : (size : ℕ) → h ≡ heapAfter h (allocate G m size)
-    allocate-heap size = heap-left h (allocate-comes G m size) refl
+    pub allocate-heap : (size : ℕ) → h ≡ heapAfter G m h (allocate G m size)
+    allocate-heap size = heap-left G m h (allocate-comes G m size) refl
 
-    pub free-heap : (offset : ℕ) → h ≡ heapAfter h (free G m offset)
-    free-heap offset = heap-left h (free-comes G m offset) refl
+    pub free-heap : (offset : ℕ) → h ≡ heapAfter G m h (free G m offset)
+    free-heap offset = heap-left G m h (free-comes G m offset) refl
 
     -- measuring writes no bytes
-    pub remaining-heap : (offset : ℕ) → h ≡ heapAfter h (remaining G m offset)
-    remaining-heap offset = heap-left h (remaining-comes G m offset) (take-append-drop offset h)
+    pub remaining-heap : (offset : ℕ) → h ≡ heapAfter G m h (remaining G m offset)
+    remaining-heap offset = heap-left G m h (remaining-comes G m offset) (take-append-drop offset h)

@@ -6,12 +6,11 @@ use geometry::Layout;
 use numbers::wide;
 use request::Kind;
 ghost use mathlib.Core.Path.{_≡_};
-ghost use Prim.Native.Nat.{_≤_};
 ghost use lib.ListN.{length};
-ghost use Rattle.geometry.specs.Layout.{heapLength, metadataLength};
 ghost use Rattle.answer.specs.Reply.{replyOf};
+ghost use Rattle.rules.specs.Judge.{Fits};
 ghost use Rattle.rules.specs.Outcome.{reply, heapAfter};
-ghost use Rattle.rules.specs.Object.{copy, contentOf};
+ghost use Rattle.rules.specs.Object.{copy};
 
 pub fn copy(
     heap: &mut [u8],
@@ -21,9 +20,11 @@ pub fn copy(
     kind: Kind,
     source: &[u8],
 ) -> Answer
-    requires { ⌜ (layout .region ≤ 1048576) × (length (now metadata) ≡ metadataLength layout) × (length (now heap) ≡ heapLength layout) ⌝ }
-    ensures { λ r. ⌜ replyOf r ≡ reply layout (copy layout (now (metadata .entry)) offset (contentOf kind (now (source .entry)))) ⌝ }
-    ensures { λ _. ⌜ now (heap .exit) ≡ heapAfter (now (heap .entry)) (copy layout (now (metadata .entry)) offset (contentOf kind (now (source .entry)))) ⌝ }
+    requires { ⌜ Fits layout (length (now heap)) (length (now metadata)) ⌝ }
+    ensures { λ r.
+        let m = now (metadata .entry) in
+        let outcome = copy layout m offset kind (now (source .entry)) in
+        ⌜ (replyOf r ≡ reply layout outcome) × (now (heap .exit) ≡ heapAfter layout m (now (heap .entry)) outcome) ⌝ }
 {
     let start = wide(offset);
     if heap.len() <= start {

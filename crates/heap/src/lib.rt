@@ -1,5 +1,6 @@
 // The heap: opening, six operations and one entry point.
 mod allocate;
+mod bits;
 mod copy;
 mod fields;
 mod object;
@@ -7,44 +8,40 @@ mod object;
 use answer::Answer;
 use answer::Refusal;
 use geometry::Layout;
-use geometry::Plan;
 use mwc::Generator;
 use request::Parsed;
 use request::Request;
+use rules::Judged;
 ghost use mathlib.Core.Path.{_≡_};
-ghost use Prim.Native.Nat.{_≤_};
 ghost use lib.ListN.{length};
-ghost use Rattle.geometry.specs.Layout.{layoutOf, metadataLength, heapLength};
 ghost use Rattle.answer.specs.Reply.{replyOf};
-ghost use Rattle.rules.specs.Open.{setup, openReply, opened};
-ghost use Rattle.rules.specs.Outcome.{reply, metadataAfter, heapAfter};
-ghost use Rattle.rules.specs.Serve.{perform, serve};
+ghost use Rattle.request.specs.Parse.{parse};
+ghost use Rattle.rules.specs.Judge.{Fits};
+ghost use Rattle.rules.specs.Open.{setup};
+ghost use Rattle.rules.specs.Serve.{lent, perform, act};
+ghost use Rattle.rules.specs.Call.{calledBy, call, opening};
 
 // Writes fresh metadata for a heap of this length. The heap's bytes are left alone.
 pub fn open(heap: &[u8], metadata: &mut [u8], z: u32, w: u32) -> Answer
-    ensures { λ r. ⌜ replyOf r ≡ openReply (length (now (heap .entry))) (length (now (metadata .entry))) (setup z w) ⌝ }
-    ensures { λ _. ⌜ now (metadata .exit) ≡ opened (length (now (heap .entry))) (now (metadata .entry)) (setup z w) ⌝ }
+    ensures { λ r.
+        let called = opening (now (heap .entry)) (now (metadata .entry)) (setup z w) in
+        ⌜ (replyOf r ≡ called .answer) × (now (metadata .exit) ≡ called .metadata) ⌝ }
 {
-    let plan = Plan::of(heap.len());
-    let layout = plan.layout;
-    if layout.region == 0 {
-        return Answer::Refused(Refusal::HeapLength);
+    match judge::lengths(heap.len(), metadata.len()) {
+        Judged::Unfit(refusal) => Answer::Refused(refusal),
+        Judged::Laid(_) => {
+            let seeds = Generator { z, w };
+            if seeds.is_unusable() {
+                return Answer::Refused(Refusal::ZeroSeed);
+            }
+            fill::clear(metadata);
+            fields::store(metadata, seeds);
+            Answer::Served(0)
+        }
     }
-    if metadata.len() != plan.metadata {
-        return Answer::Refused(Refusal::MetadataLength);
-    }
-    if z == 0 {
-        return Answer::Refused(Refusal::ZeroSeed);
-    }
-    if w == 0 {
-        return Answer::Refused(Refusal::ZeroSeed);
-    }
-    fill::clear(metadata);
-    fields::store(metadata, Generator { z, w });
-    Answer::Served(0)
 }
 
-// Carries a request out on a heap and metadata that fit its layout.
+// Carries a request out.
 fn perform(
     heap: &mut [u8],
     metadata: &mut [u8],
@@ -52,10 +49,12 @@ fn perform(
     request: Request,
     source: &[u8],
 ) -> Answer
-    requires { ⌜ (layout .region ≤ 1048576) × (length (now metadata) ≡ metadataLength layout) × (length (now heap) ≡ heapLength layout) ⌝ }
-    ensures { λ r. ⌜ replyOf r ≡ reply layout (perform layout (now (metadata .entry)) (now (source .entry)) request) ⌝ }
-    ensures { λ _. ⌜ now (metadata .exit) ≡ metadataAfter layout (now (metadata .entry)) (perform layout (now (metadata .entry)) (now (source .entry)) request) ⌝ }
-    ensures { λ _. ⌜ now (heap .exit) ≡ heapAfter (now (heap .entry)) (perform layout (now (metadata .entry)) (now (source .entry)) request) ⌝ }
+    requires { ⌜ Fits layout (length (now heap)) (length (now metadata)) ⌝ }
+    ensures { λ r.
+        let outcome = perform layout (now (metadata .entry)) (lent (now (source .entry))) request in
+        let called = calledBy layout (now (heap .entry)) (now (metadata .entry)) outcome in
+        ⌜ (replyOf r ≡ called .answer) × (now (metadata .exit) ≡ called .metadata)
+        × (now (heap .exit) ≡ called .heap) ⌝ }
 {
     match request {
         Request::Allocate(size) => allocate::allocate(metadata, layout, size),
@@ -65,22 +64,36 @@ fn perform(
     }
 }
 
-// Serves a request of any bytes on any heap and any metadata.
-pub fn serve(heap: &mut [u8], metadata: &mut [u8], request: &[u8], source: &[u8]) -> Answer
-    ensures { λ r. ⌜ replyOf r ≡ reply (layoutOf (length (now (heap .entry)))) (serve (length (now (heap .entry))) (now (metadata .entry)) (now (request .entry)) (now (source .entry))) ⌝ }
-    ensures { λ _. ⌜ now (metadata .exit) ≡ metadataAfter (layoutOf (length (now (heap .entry)))) (now (metadata .entry)) (serve (length (now (heap .entry))) (now (metadata .entry)) (now (request .entry)) (now (source .entry))) ⌝ }
-    ensures { λ _. ⌜ now (heap .exit) ≡ heapAfter (now (heap .entry)) (serve (length (now (heap .entry))) (now (metadata .entry)) (now (request .entry)) (now (source .entry))) ⌝ }
+// Reads a request whole before any other work on it.
+fn act(
+    heap: &mut [u8],
+    metadata: &mut [u8],
+    layout: Layout,
+    request: &[u8],
+    source: &[u8],
+) -> Answer
+    requires { ⌜ Fits layout (length (now heap)) (length (now metadata)) ⌝ }
+    ensures { λ r.
+        let outcome = act layout (now (metadata .entry)) (lent (now (source .entry))) (parse (now (request .entry))) in
+        let called = calledBy layout (now (heap .entry)) (now (metadata .entry)) outcome in
+        ⌜ (replyOf r ≡ called .answer) × (now (metadata .exit) ≡ called .metadata)
+        × (now (heap .exit) ≡ called .heap) ⌝ }
 {
-    let plan = Plan::of(heap.len());
-    let layout = plan.layout;
-    if layout.region == 0 {
-        return Answer::Refused(Refusal::HeapLength);
-    }
-    if metadata.len() != plan.metadata {
-        return Answer::Refused(Refusal::MetadataLength);
-    }
     let Parsed::Whole(whole) = request::read(request) else {
         return Answer::Refused(Refusal::MalformedRequest);
     };
     perform(heap, metadata, layout, whole, source)
+}
+
+// Serves a request of any bytes on any heap and any metadata.
+pub fn serve(heap: &mut [u8], metadata: &mut [u8], request: &[u8], source: &[u8]) -> Answer
+    ensures { λ r.
+        let called = call (now (heap .entry)) (now (metadata .entry)) (now (request .entry)) (lent (now (source .entry))) in
+        ⌜ (replyOf r ≡ called .answer) × (now (metadata .exit) ≡ called .metadata)
+        × (now (heap .exit) ≡ called .heap) ⌝ }
+{
+    match judge::lengths(heap.len(), metadata.len()) {
+        Judged::Unfit(refusal) => Answer::Refused(refusal),
+        Judged::Laid(layout) => act(heap, metadata, layout, request, source),
+    }
 }

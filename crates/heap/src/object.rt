@@ -1,4 +1,5 @@
 // Freeing an object, and its remaining size.
+use crate::bits;
 use answer::Answer;
 use answer::Refusal;
 use geometry::CLASSES;
@@ -7,15 +8,18 @@ use numbers::wide;
 ghost use mathlib.Core.Path.{_≡_};
 ghost use Prim.Native.Nat.{_+_, _≤_, _<_};
 ghost use lib.ListN.{length};
-ghost use Rattle.geometry.specs.Layout.{heapLength, metadataLength};
+ghost use Rattle.geometry.specs.Layout.{heapLength};
 ghost use Rattle.answer.specs.Reply.{replyOf};
+ghost use Rattle.rules.specs.Judge.{Fits};
 ghost use Rattle.rules.specs.Outcome.{reply, metadataAfter};
 ghost use Rattle.rules.specs.Object.{space, free, remaining};
 
 pub fn free(metadata: &mut [u8], layout: Layout, offset: u32) -> Answer
-    requires { ⌜ (layout .region ≤ 1048576) × (length (now metadata) ≡ metadataLength layout) ⌝ }
-    ensures { λ r. ⌜ replyOf r ≡ reply layout (free layout (now (metadata .entry)) offset) ⌝ }
-    ensures { λ _. ⌜ now (metadata .exit) ≡ metadataAfter layout (now (metadata .entry)) (free layout (now (metadata .entry)) offset) ⌝ }
+    requires { ⌜ Fits layout (heapLength layout) (length (now metadata)) ⌝ }
+    ensures { λ r.
+        let m = now (metadata .entry) in
+        let outcome = free layout m offset in
+        ⌜ (replyOf r ≡ reply layout outcome) × (now (metadata .exit) ≡ metadataAfter layout m outcome) ⌝ }
 {
     if CLASSES * wide(layout.region) <= wide(offset) {
         return Answer::Refused(Refusal::OutOfRange);
@@ -27,40 +31,35 @@ pub fn free(metadata: &mut [u8], layout: Layout, offset: u32) -> Answer
         return Answer::Refused(Refusal::NotASlotStart);
     }
     let part = layout.part(class);
-    let slots = part.slots;
-    if slots <= slot {
+    if part.slots <= slot {
         return Answer::Refused(Refusal::NotASlotStart);
     }
-    let start = part.start;
-    let end = part.end;
-    if !bitmap::is_set(&metadata[start..end], slots, slot) {
+    if !bits::is_set(metadata, part, slot) {
         return Answer::Refused(Refusal::NotAllocated);
     }
-    bitmap::clear(&mut metadata[start..end], slots, slot);
+    bits::clear(metadata, part, slot);
     Answer::Served(layout.slot_size(class) as u32)
 }
 
 // The bytes from an offset of the heap to the end of the live object that it lies in; 0 where it lies in none.
 pub fn space(metadata: &[u8], layout: Layout, offset: u32) -> usize
-    requires { ⌜ (layout .region ≤ 1048576) × (length (now metadata) ≡ metadataLength layout) × (offset < heapLength layout) ⌝ }
-    ensures { λ r. ⌜ (r ≡ space layout (now (metadata .entry)) offset) × (offset + r ≤ heapLength layout) × (r ≤ 16384) ⌝ }
+    requires { ⌜ Fits layout (heapLength layout) (length (now metadata)) × (offset < heapLength layout) ⌝ }
+    ensures { λ r.
+        let m = now (metadata .entry) in
+        ⌜ (r ≡ space layout m offset) × (offset + r ≤ heapLength layout) × (r ≤ 16384) ⌝ }
 {
     let at = layout.locate(offset);
     let class = at.class;
     let slot = at.slot;
     let into = at.into;
-    let part = layout.part(class);
-    let slots = part.slots;
-    let start = part.start;
-    let end = part.end;
-    if bitmap::is_set(&metadata[start..end], slots, slot) {
+    if bits::is_set(metadata, layout.part(class), slot) {
         return layout.slot_size(class) - into;
     }
     0
 }
 
 pub fn remaining(metadata: &[u8], layout: Layout, offset: u32) -> Answer
-    requires { ⌜ (layout .region ≤ 1048576) × (length (now metadata) ≡ metadataLength layout) ⌝ }
+    requires { ⌜ Fits layout (heapLength layout) (length (now metadata)) ⌝ }
     ensures { λ r. ⌜ replyOf r ≡ reply layout (remaining layout (now (metadata .entry)) offset) ⌝ }
 {
     if CLASSES * wide(layout.region) <= wide(offset) {

@@ -1,15 +1,15 @@
 -- Calls and what they come to, as lists of numbers for tables of worked examples.
-use Prim.Native.Nat.{ℕ, _*_, _-_}
-use mathlib.Core.List.{List, [], _∷_, _++_}
-use lib.ListN.{length, replicate}
-use Rattle.words.specs.Word.{bytesOf}
+use Prim.Native.Nat.{ℕ, _*_}
+use mathlib.Core.List.{List, [], _∷_}
+use lib.ListN.{replicate}
 use Rattle.mwc.specs.declared.Generator.{Generator}
-use Rattle.geometry.specs.Layout.{layoutOf, classes, header, metadataLength}
+use Rattle.geometry.specs.Layout.{layoutOf, classes, metadataLength}
+use Rattle.request.specs.Parse.{requestBytes}
 use Rattle.answer.specs.Reply.{Reply}
-use Rattle.rules.specs.Metadata.{fieldsOf}
+use Rattle.rules.specs.Metadata.{withGenerator}
 use Rattle.rules.specs.Open.{setup, openReply}
 use Rattle.rules.specs.Outcome.{Outcome, reply, metadataAfter}
-use Rattle.rules.specs.Serve.{serve}
+use Rattle.rules.specs.Serve.{lent, serve}
 use Rattle.vote.specs.Decide.{Decision, Tally, decide, tally, outputAfter}
 
 -- what the definitions give, and what is right
@@ -33,29 +33,26 @@ abbrev pub heapOf : ℕ → ℕ
 heapOf R = classes * R
 
 -- the answer to an opening on metadata of some length
-unfoldable pub opening : ℕ → ℕ → ℕ → ℕ → List ℕ
-opening R metadataBytes z w = numbers (openReply (heapOf R) metadataBytes (setup z w))
+unfoldable pub opened : ℕ → ℕ → ℕ → ℕ → List ℕ
+opened R metadataBytes z w = numbers (openReply (heapOf R) metadataBytes (setup z w))
 
 -- metadata with clear bitmaps and any generator, of an opening or not
 unfoldable pub clear : ℕ → ℕ → ℕ → List ℕ
-clear R z w = fieldsOf (seeds z w) ++ replicate (metadataLength (layoutOf (heapOf R)) - header) 0
+clear R z w = withGenerator (replicate (metadataLength (layoutOf (heapOf R))) 0) (seeds z w)
 
--- a request of an operation, its size or offset and its count
-unfoldable pub request : ℕ → ℕ → ℕ → List ℕ
-request operation argument count = bytesOf operation ++ bytesOf argument ++ bytesOf count ++ bytesOf 0
-
+-- requests, by operation
 abbrev pub allocate : ℕ → List ℕ
-allocate size = request 0 size 0
+allocate size = requestBytes 0 size 0
 
 abbrev pub free : ℕ → List ℕ
-free offset = request 1 offset 0
+free offset = requestBytes 1 offset 0
 
 abbrev pub remaining : ℕ → List ℕ
-remaining offset = request 2 offset 0
+remaining offset = requestBytes 2 offset 0
 
 -- what a request comes to on metadata m, its answer, and the metadata after it
 unfoldable pub outcomeOf : ℕ → List ℕ → List ℕ → List ℕ → Outcome
-outcomeOf R m r source = serve (heapOf R) m r source
+outcomeOf R m r source = serve (heapOf R) m r (lent source)
 
 unfoldable pub answerTo : ℕ → List ℕ → List ℕ → List ℕ
 answerTo R m r = numbers (reply (layoutOf (heapOf R)) (outcomeOf R m r []))

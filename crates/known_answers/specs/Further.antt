@@ -3,7 +3,8 @@ use Prim.Native.Nat.{ℕ, _*_}
 use mathlib.Core.List.{List, [], _∷_, _++_}
 use lib.ListN.{drop, set, replicate}
 use Rattle.geometry.specs.Layout.{layoutOf, header, classOf}
-use Rattle.known_answers.specs.Calls.{Row, row, heapOf, opening, clear, request, allocate, free, remaining, answerTo, after, voting}
+use Rattle.request.specs.Parse.{requestBytes}
+use Rattle.known_answers.specs.Calls.{Row, row, heapOf, opened, clear, allocate, free, remaining, answerTo, after, voting}
 
 -- ---- regions of 4,096 bytes: class 4 has 32 slots of 128 bytes, and its bitmap is bytes 128 to 131
 
@@ -65,21 +66,21 @@ further =
     ∷ row (answerTo 1_024 (clear 1_024 1 1) (remaining 12_287)) (0 ∷ 0 ∷ [])
     ∷ row (answerTo 1_024 (clear 1_024 1 1) (remaining 12_288)) (8 ∷ 0 ∷ [])
     -- requests: the last operation, none such, a count where there is none, and 15 and 17 bytes
-    ∷ row (answerTo 1_024 (clear 1_024 1 1) (request 5 0 1)) (0 ∷ 0 ∷ [])
-    ∷ row (answerTo 1_024 (clear 1_024 1 1) (request 6 0 0)) (4 ∷ 0 ∷ [])
-    ∷ row (answerTo 1_024 (clear 1_024 1 1) (request 4 0 1)) (4 ∷ 0 ∷ [])
+    ∷ row (answerTo 1_024 (clear 1_024 1 1) (requestBytes 5 0 1)) (0 ∷ 0 ∷ [])
+    ∷ row (answerTo 1_024 (clear 1_024 1 1) (requestBytes 6 0 0)) (4 ∷ 0 ∷ [])
+    ∷ row (answerTo 1_024 (clear 1_024 1 1) (requestBytes 4 0 1)) (4 ∷ 0 ∷ [])
     ∷ row (answerTo 1_024 (clear 1_024 1 1) (drop 1 (remaining 0))) (4 ∷ 0 ∷ [])
     ∷ row (answerTo 1_024 (clear 1_024 1 1) (remaining 0 ++ (0 ∷ []))) (4 ∷ 0 ∷ [])
     -- openings: the shortest and the longest heap, half and twice that, no power of two, metadata a byte off, and seeds of 0
-    ∷ row (opening 1_024 42 1 1) (0 ∷ 0 ∷ [])
-    ∷ row (opening 1_048_576 32_768 1 1) (0 ∷ 0 ∷ [])
-    ∷ row (opening 512 42 1 1) (2 ∷ 0 ∷ [])
-    ∷ row (opening 2_097_152 65_536 1 1) (2 ∷ 0 ∷ [])
-    ∷ row (opening 1_536 42 1 1) (2 ∷ 0 ∷ [])
-    ∷ row (opening 1_024 41 1 1) (3 ∷ 0 ∷ [])
-    ∷ row (opening 1_024 43 0 0) (3 ∷ 0 ∷ [])
-    ∷ row (opening 1_024 42 0 1) (1 ∷ 0 ∷ [])
-    ∷ row (opening 1_024 42 1 0) (1 ∷ 0 ∷ [])
+    ∷ row (opened 1_024 42 1 1) (0 ∷ 0 ∷ [])
+    ∷ row (opened 1_048_576 32_768 1 1) (0 ∷ 0 ∷ [])
+    ∷ row (opened 512 42 1 1) (2 ∷ 0 ∷ [])
+    ∷ row (opened 2_097_152 65_536 1 1) (2 ∷ 0 ∷ [])
+    ∷ row (opened 1_536 42 1 1) (2 ∷ 0 ∷ [])
+    ∷ row (opened 1_024 41 1 1) (3 ∷ 0 ∷ [])
+    ∷ row (opened 1_024 43 0 0) (3 ∷ 0 ∷ [])
+    ∷ row (opened 1_024 42 0 1) (1 ∷ 0 ∷ [])
+    ∷ row (opened 1_024 42 1 0) (1 ∷ 0 ∷ [])
     -- votes: 2 and 17 replicas, blocks of 0 and 4,097 bytes; 3 and 16 replicas, blocks of 4,096 bytes
     ∷ row (voting (replicate 2 0x41) 2 1 1) (11 ∷ 0 ∷ 0 ∷ 0xff ∷ [])
     ∷ row (voting (replicate 17 0x41) 17 1 1) (11 ∷ 0 ∷ 0 ∷ 0xff ∷ [])

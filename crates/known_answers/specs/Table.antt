@@ -5,9 +5,10 @@ use lib.ListN.{length, take, drop, set, replicate}
 use Rattle.mwc.specs.Draw.{next, drawn}
 use Rattle.geometry.specs.declared.Layout.{Layout}
 use Rattle.geometry.specs.Layout.{layoutOf, classOf, metadataLength}
+use Rattle.request.specs.Parse.{requestBytes}
 use Rattle.rules.specs.Open.{setup, opened}
 use Rattle.rules.specs.Outcome.{Outcome, reply, heapAfter}
-use Rattle.known_answers.specs.Calls.{Row, row, seeds, numbers, heapOf, request, allocate, free, outcomeOf, answerTo, after, voting}
+use Rattle.known_answers.specs.Calls.{Row, row, seeds, numbers, heapOf, allocate, free, outcomeOf, answerTo, after, voting}
 
 -- ---- a heap with regions of 4,096 bytes, opened with z = 1 and w = 1
 
@@ -28,7 +29,7 @@ oneObject = after R start (allocate 5)
 unfoldable pub copying : List ℕ → List ℕ → List ℕ
 copying r source =
     let o : Outcome = outcomeOf R oneObject r source in
-    numbers (reply G o) ++ take 9 (drop 640 (heapAfter (replicate (heapOf R) 0xff) o))
+    numbers (reply G o) ++ take 9 (drop 640 (heapAfter G oneObject (replicate (heapOf R) 0xff) o))
 
 -- votes on blocks of one byte
 unfoldable pub bytesVoted : List ℕ → List ℕ
@@ -44,9 +45,9 @@ table =
     ∷ row oneObject (set (set (set (set (set (replicate 138 0) 0 0x69) 1 0x90) 4 0x50) 5 0x46) 18 0x01)
     ∷ row (classOf G 8 ∷ classOf G 9 ∷ []) (0 ∷ 1 ∷ [])
     ∷ row (answerTo R (after R start (allocate 2_048)) (allocate 2_048)) (7 ∷ 0 ∷ [])
-    ∷ row (copying (request 3 643 0) (1 ∷ 2 ∷ 3 ∷ 4 ∷ 5 ∷ 6 ∷ 7 ∷ 8 ∷ [])) (0 ∷ 5 ∷ 0xff ∷ 0xff ∷ 0xff ∷ 1 ∷ 2 ∷ 3 ∷ 4 ∷ 5 ∷ 0xff ∷ [])
-    ∷ row (copying (request 4 640 0) (0x41 ∷ 0x42 ∷ 0x00 ∷ 0x43 ∷ [])) (0 ∷ 3 ∷ 0x41 ∷ 0x42 ∷ 0x00 ∷ 0xff ∷ 0xff ∷ 0xff ∷ 0xff ∷ 0xff ∷ 0xff ∷ [])
-    ∷ row (copying (request 5 640 4) (0x41 ∷ 0x00 ∷ 0x43 ∷ [])) (0 ∷ 4 ∷ 0x41 ∷ 0x00 ∷ 0x00 ∷ 0x00 ∷ 0xff ∷ 0xff ∷ 0xff ∷ 0xff ∷ 0xff ∷ [])
+    ∷ row (copying (requestBytes 3 643 0) (1 ∷ 2 ∷ 3 ∷ 4 ∷ 5 ∷ 6 ∷ 7 ∷ 8 ∷ [])) (0 ∷ 5 ∷ 0xff ∷ 0xff ∷ 0xff ∷ 1 ∷ 2 ∷ 3 ∷ 4 ∷ 5 ∷ 0xff ∷ [])
+    ∷ row (copying (requestBytes 4 640 0) (0x41 ∷ 0x42 ∷ 0x00 ∷ 0x43 ∷ [])) (0 ∷ 3 ∷ 0x41 ∷ 0x42 ∷ 0x00 ∷ 0xff ∷ 0xff ∷ 0xff ∷ 0xff ∷ 0xff ∷ 0xff ∷ [])
+    ∷ row (copying (requestBytes 5 640 4) (0x41 ∷ 0x00 ∷ 0x43 ∷ [])) (0 ∷ 4 ∷ 0x41 ∷ 0x00 ∷ 0x00 ∷ 0x00 ∷ 0xff ∷ 0xff ∷ 0xff ∷ 0xff ∷ 0xff ∷ [])
     ∷ row (answerTo R start (free 49_152)) (8 ∷ 0 ∷ [])
     ∷ row (bytesVoted (0x41 ∷ 0x42 ∷ 0x41 ∷ [])) (0 ∷ 5 ∷ 2 ∷ 0x41 ∷ [])
     ∷ row (bytesVoted (0x42 ∷ 0x41 ∷ 0x41 ∷ 0x42 ∷ [])) (0 ∷ 9 ∷ 2 ∷ 0x42 ∷ [])

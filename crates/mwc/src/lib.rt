@@ -1,7 +1,7 @@
 // Marsaglia's multiply-with-carry pair: two 32-bit halves and the number that they draw.
 ghost use mathlib.Core.Path.{_≡_};
 ghost use Prim.Native.Nat.{_<_};
-ghost use Rattle.mwc.specs.Draw.{step, next, drawn};
+ghost use Rattle.mwc.specs.Draw.{step, next, drawn, isUnusable};
 
 pub struct Generator {
     pub z: u32,
@@ -32,5 +32,15 @@ impl Generator {
         ensures { λ r. ⌜ r ≡ drawn self ⌝ }
     {
         std::num::wrapping_add_u32(self.z % 65536 * 65536, self.w)
+    }
+
+    // Whether no heap is opened with these halves.
+    pub fn is_unusable(self) -> bool
+        ensures { λ r. ⌜ r ≡ isUnusable self ⌝ }
+    {
+        if self.z == 0 {
+            return true;
+        }
+        self.w == 0
     }
 }

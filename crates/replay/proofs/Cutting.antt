@@ -8,7 +8,8 @@ use mathlib.Core.List.{List, [], _∷_, _++_, append-assoc, append-nil, flatten}
 use lib.ListN.{length, take, drop, length-append, length-take, length-drop, take-append-drop}
 use lib.Seq.{take-append-le, drop-append-le}
 use Rattle.replay.specs.Line.{lineRoom, lineFor}
-use Rattle.replay.specs.Batch.{State, served, requests, lines, after, batchOf}
+use Rattle.rules.specs.Call.{State, stateAfter}
+use Rattle.replay.specs.Batch.{requests, lines, after, batchOf}
 use Rattle.replay.specs.Pieces.{ready, rest, allLines, allAfter, linesIn, afterIn}
 use Rattle.replay.proofs.Replayed.{accepted-all}
 
@@ -35,15 +36,15 @@ module _ (b : List ℕ) (j : ℕ) where
   lines-append zero a s number e = rw (empty a e, zero-add, add-zero)
   lines-append (suc k) a s number e =
       let next : number + 1 + k ≡ number + suc k = omega arith in
-      rw (suc-add, first k a e, later k a e, lines-append k (drop 16 a) (served s (take 16 a)) (number + 1) (fewer k a e), next)
-      (sym (append-assoc (lineFor (length (s .heap)) (s .metadata) (take 16 a) number) _ _))
+      rw (suc-add, first k a e, later k a e, lines-append k (drop 16 a) (stateAfter s (take 16 a)) (number + 1) (fewer k a e), next)
+      (sym (append-assoc (lineFor s (take 16 a) number) _ _))
 
   after-append : (k : ℕ) (a : List ℕ) (s : State) → length a ≡ 16 * k → after (k + j) s (a ++ b) ≡ after j (after k s a) b
   unfolding after
   after-append zero a s e = rw (empty a e, zero-add)
   after-append (suc k) a s e =
-      let one : after (suc (k + j)) s (a ++ b) ≡ after (k + j) (served s (take 16 (a ++ b))) (drop 16 (a ++ b)) = refl in
-      rw (suc-add, one, first k a e, later k a e) (after-append k (drop 16 a) (served s (take 16 a)) (fewer k a e))
+      let one : after (suc (k + j)) s (a ++ b) ≡ after (k + j) (stateAfter s (take 16 (a ++ b))) (drop 16 (a ++ b)) = refl in
+      rw (suc-add, one, first k a e, later k a e) (after-append k (drop 16 a) (stateAfter s (take 16 a)) (fewer k a e))
 
 -- whole requests, and any bytes after them
 module _ (k : ℕ) (a b : List ℕ) (whole : length a ≡ 16 * k) (s : State) where

@@ -11,7 +11,8 @@ use lib.Seq.{take-all, take-length, drop-length, drop-drop}
 use borrow.Author.Tests.{lt-ltb, le-ltb, le-leb, lt-leb}
 use Rattle.writing.specs.Overwrite.{overwrite}
 use Rattle.replay.specs.Line.{lineRoom, lineFor}
-use Rattle.replay.specs.Batch.{State, served, requests, lines, after, accepted, batchOf}
+use Rattle.rules.specs.Call.{State, stateOf, stateAfter}
+use Rattle.replay.specs.Batch.{requests, lines, after, accepted, batchOf}
 use Rattle.writing.proofs.Writing.{Wrote, wrote-then, wrote-from, wrote-length}
 
 module _ (room number : ℕ) (input : List ℕ) where
@@ -64,11 +65,11 @@ module _ (left : ℕ) (now : State) (input : List ℕ) (some : 0 < left) where
 
   lines-more : (next : ℕ)
       → lines left now next input
-      ≡ lineFor (length (now .heap)) (now .metadata) (take 16 input) next ++ lines (left - 1) (served now (take 16 input)) (next + 1) (drop 16 input)
+      ≡ lineFor now (take 16 input) next ++ lines (left - 1) (stateAfter now (take 16 input)) (next + 1) (drop 16 input)
   unfolding lines
   lines-more next = ap (λ (k : ℕ). lines k now next input) one-more
 
-  after-more : after left now input ≡ after (left - 1) (served now (take 16 input)) (drop 16 input)
+  after-more : after left now input ≡ after (left - 1) (stateAfter now (take 16 input)) (drop 16 input)
   unfolding after
   after-more = ap (λ (k : ℕ). after k now input) one-more
 
@@ -127,16 +128,15 @@ module _ {before : State} {number : ℕ} {input out₀ : List ℕ} where
     -- one request more is served, and its line written
     pub replayed-more : 0 < left → {end r : ℕ} {w heap metadata : List ℕ} → end ≡ at + min 16 (length input - at)
         → let request = take 16 (drop at input) in
-        let line = lineFor (length (now .heap)) (now .metadata) request next in
+        let line = lineFor now request next in
         r ≡ length line → r ≤ lineRoom → w ≡ overwrite (take (length out - written) (drop written out)) 0 line
-        → metadata ≡ served now request .metadata → heap ≡ served now request .heap
+        → stateOf heap metadata ≡ stateAfter now request
         → length metadata ≡ length (now .metadata) → length heap ≡ length (now .heap)
         → Replayed before number input out₀ (record { heap = heap; metadata = metadata })
         (take written out ++ (w ++ drop (length out - written) (drop written out))) (left - 1) (next + 1) end (written + r)
-    replayed-more some {end} {r} {w} {heap} {metadata} e size small bytes f g m h =
+    replayed-more some {end} {r} {w} {heap} {metadata} e size small bytes state m h =
         let request : List ℕ = take 16 (drop at input) in
-        let line : List ℕ = lineFor (length (now .heap)) (now .metadata) request next in
-        let state : _≡_ {A = State} (record { heap = heap; metadata = metadata }) (served now request) = λ i. record { heap = g i; metadata = f i } in
+        let line : List ℕ = lineFor now request next in
         let one = wrote-from out line written bytes (omega arith) in
         let all = wrote-then (p .wrote) one (omega arith) in
         let kept = wrote-length all in

@@ -5,9 +5,7 @@ use lib.Dec.{leb}
 use mathlib.Core.List.{List, [], _∷_, _++_}
 use Rattle.answer.specs.Reply.{Reply}
 use Rattle.decimal.specs.Decimal.{width, decimal}
-use Rattle.geometry.specs.Layout.{layoutOf}
-use Rattle.rules.specs.Outcome.{reply}
-use Rattle.rules.specs.Serve.{serve}
+use Rattle.rules.specs.Call.{State, callOn}
 
 -- a number and a byte after it
 abbrev pub field : ℕ → ℕ → List ℕ
@@ -24,6 +22,6 @@ lineRoom = 3 * (width + 1)
 abbrev pub hasRoom : ℕ → Bool
 hasRoom n = leb lineRoom n
 
--- the line of a request that is served with an empty source
-abbrev pub lineFor : ℕ → List ℕ → List ℕ → ℕ → List ℕ
-lineFor heapBytes m request number = lineOf number (reply (layoutOf heapBytes) (serve heapBytes m request []))
+-- the line of a request
+abbrev pub lineFor : State → List ℕ → ℕ → List ℕ
+lineFor s request number = lineOf number (callOn s request .answer)

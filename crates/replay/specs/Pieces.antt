@@ -3,11 +3,13 @@ use Prim.Native.Nat.{ℕ, _+_, _*_, _/_}
 use mathlib.Core.Bool.{Bool, false, cond}
 use mathlib.Core.List.{List, [], _∷_, _++_}
 use lib.ListN.{length, take, drop}
-use Rattle.replay.specs.Batch.{State, requests, lines, after}
+use Rattle.request.specs.Parse.{requestSize}
+use Rattle.rules.specs.Call.{State}
+use Rattle.replay.specs.Batch.{requests, lines, after}
 
 -- how many of n bytes are served: those of whole requests, or all where the input has ended
 abbrev pub readyLength : Bool → ℕ → ℕ
-readyLength ended n = cond ended n (16 * (n / 16))
+readyLength ended n = cond ended n (requestSize * (n / requestSize))
 
 -- the bytes that are served, and those that are kept for the next piece
 abbrev pub ready : Bool → List ℕ → List ℕ

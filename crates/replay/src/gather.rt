@@ -3,7 +3,8 @@ ghost use mathlib.Core.Path.{_≡_};
 ghost use Prim.Native.Nat.{_+_, _<_, _≤_};
 ghost use lib.ListN.{length, drop};
 ghost use Rattle.writing.specs.Overwrite.{overwrite};
-ghost use Rattle.replay.specs.Batch.{State, Batch, stateOf, batchOf};
+ghost use Rattle.rules.specs.Call.{State, stateOf};
+ghost use Rattle.replay.specs.Batch.{Batch, batchOf};
 ghost use Rattle.replay.specs.Pieces.{readyLength, ready, rest};
 use crate::REQUEST;
 

@@ -5,14 +5,10 @@ ghost use mathlib.Core.Path.{_≡_};
 ghost use Prim.Native.Nat.{suc, _+_, _-_, _*_, _^_, _<_, _≤_, min};
 ghost use lib.ListN.{length};
 ghost use Rattle.decimal.specs.Decimal.{width, decimal};
-ghost use mathlib.Core.Bool.{cond};
-ghost use mathlib.Core.List.{[]};
-ghost use Rattle.geometry.specs.Layout.{layoutOf};
 ghost use Rattle.writing.specs.Overwrite.{overwrite};
-ghost use Rattle.rules.specs.Outcome.{metadataAfter, heapAfter};
-ghost use Rattle.rules.specs.Serve.{serve};
-ghost use Rattle.replay.specs.Line.{field, lineOf, lineRoom, hasRoom, lineFor};
-ghost use Rattle.replay.specs.Batch.{State, Batch, stateOf, accepted, batchOf};
+ghost use Rattle.rules.specs.Call.{State, stateOf};
+ghost use Rattle.replay.specs.Line.{field, lineOf, lineRoom};
+ghost use Rattle.replay.specs.Batch.{Batch, accepted, batchOf, stepOf};
 
 const WIDTH: usize = 20;
 
@@ -20,7 +16,7 @@ const WIDTH: usize = 20;
 pub const LINE_ROOM: usize = 3 * (WIDTH + 1);
 
 // The bytes of a request.
-const REQUEST: usize = 16;
+const REQUEST: usize = request::SIZE;
 
 // Writes a number at a place, and answers the place after it.
 fn put_number(out: &mut [u8], at: usize, n: u64) -> usize
@@ -50,8 +46,9 @@ fn put_field(out: &mut [u8], at: usize, n: u64, mark: u8) -> usize
 // Writes a line at the front.
 fn put_line(out: &mut [u8], number: u64, refusal: u32, value: u32) -> usize
     requires { ⌜ lineRoom ≤ length (now out) ⌝ }
-    ensures { λ r. ⌜ (r ≡ length (lineOf number (record { number = refusal; value = value }))) × (r ≤ lineRoom) ⌝ }
-    ensures { λ _. ⌜ now (out .exit) ≡ overwrite (now (out .entry)) 0 (lineOf number (record { number = refusal; value = value })) ⌝ }
+    ensures { λ r.
+        let line = lineOf number (record { number = refusal; value = value }) in
+        ⌜ (r ≡ length line) × (r ≤ lineRoom) × (now (out .exit) ≡ overwrite (now (out .entry)) 0 line) ⌝ }
 {
     let second = put_field(out, 0, number, b' ');
     let third = put_field(out, second, refusal as u64, b' ');
@@ -67,10 +64,12 @@ pub fn step(
     number: u64,
     out: &mut [u8],
 ) -> usize
-    ensures { λ r. ⌜ (r ≡ cond (hasRoom (length (now (out .entry)))) (length (lineFor (length (now (heap .entry))) (now (metadata .entry)) (now (request .entry)) number)) 0) × (r ≤ length (now (out .entry))) × (r ≤ lineRoom) ⌝ }
-    ensures { λ _. ⌜ now (out .exit) ≡ cond (hasRoom (length (now (out .entry)))) (overwrite (now (out .entry)) 0 (lineFor (length (now (heap .entry))) (now (metadata .entry)) (now (request .entry)) number)) (now (out .entry)) ⌝ }
-    ensures { λ _. ⌜ now (metadata .exit) ≡ cond (hasRoom (length (now (out .entry)))) (metadataAfter (layoutOf (length (now (heap .entry)))) (now (metadata .entry)) (serve (length (now (heap .entry))) (now (metadata .entry)) (now (request .entry)) [])) (now (metadata .entry)) ⌝ }
-    ensures { λ _. ⌜ now (heap .exit) ≡ cond (hasRoom (length (now (out .entry)))) (heapAfter (now (heap .entry)) (serve (length (now (heap .entry))) (now (metadata .entry)) (now (request .entry)) [])) (now (heap .entry)) ⌝ }
+    ensures { λ r.
+        let s : State = stateOf (now (heap .entry)) (now (metadata .entry)) in
+        let b : Batch = stepOf (length (now (out .entry))) s number (now (request .entry)) in
+        ⌜ (r ≡ length (b .text)) × (now (out .exit) ≡ overwrite (now (out .entry)) 0 (b .text))
+        × (stateOf (now (heap .exit)) (now (metadata .exit)) ≡ b .state) ⌝ }
+    ensures { λ r. ⌜ (r ≤ length (now (out .entry))) × (r ≤ lineRoom) ⌝ }
 {
     if out.len() < LINE_ROOM {
         return 0;

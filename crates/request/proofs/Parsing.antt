@@ -1,40 +1,54 @@
--- What each way through the reader comes to. A part of the bytes from a on is read as `from b a`.
-use Prim.Native.Nat.{ℕ, _-_}
-use mathlib.Core.Path.{_≡_, sym, ap, _∙_}
+-- What each way through the reader comes to, and what a request's bytes are read as.
+use Prim.Native.Nat.{ℕ, _/_, _%_, _^_, _<_}
+use mathlib.Core.Path.{_≡_, sym, _∙_}
 use mathlib.Core.Bool.{true, false}
 use mathlib.Core.List.{List}
-use native.Mathlib.Nat.{le-of-eq}
+use native.Mathlib.Nat.{div-div-eq-div-mul, div-add-mod', mod-eq-of-lt}
+use native.Mathlib.Omega.{arith}
 use borrow.Author.Tests.{eq-eqb, ne-eqb}
-use lib.ListN.{length, take, drop, length-drop}
-use lib.Seq.{take-all}
-use Rattle.words.specs.Word.{wordOf}
+use lib.ListN.{length, replicate}
+use Rattle.words.specs.Word.{wordOf, bytesOf, wordAt, putWord}
 use Rattle.request.specs.declared.Parsed.the-variants.{Malformed}
-use Rattle.request.specs.Parse.{operation, countAllowed, parse}
-
-abbrev from : List ℕ → ℕ → List ℕ
-from b a = take (length b - a) (drop a b)
-
--- a part that goes to the end is the rest of the bytes
-word-from : (b : List ℕ) (a : ℕ) {x : ℕ} → x ≡ wordOf (from b a) → x ≡ wordOf (drop a b)
-word-from b a e = e ∙ ap wordOf (take-all (length b - a) (drop a b) (le-of-eq (length-drop a b)))
+use Rattle.request.specs.Parse.{operation, countAllowed, requestSize, parse, requestBytes}
 
 module _ (b : List ℕ) where
-  pub other-length : (length b ≡ 16 → ⊥) → Malformed ≡ parse b
+  pub other-length : (length b ≡ requestSize → ⊥) → Malformed ≡ parse b
   unfolding parse
-  other-length h = rw (ne-eqb (length b) 16 h)
+  other-length h = rw (ne-eqb (length b) requestSize h)
 
-  module _ (sixteen : length b ≡ 16) {last : ℕ} (at12 : last ≡ wordOf (from b 12)) where
+  module _ (sixteen : length b ≡ requestSize) {last : ℕ} (at12 : last ≡ wordAt b 12) where
     pub last-word : (last ≡ 0 → ⊥) → Malformed ≡ parse b
     unfolding parse
-    last-word h = rw (eq-eqb (length b) 16 sixteen, ne-eqb (wordOf (drop 12 b)) 0 (λ e. h (word-from b 12 at12 ∙ e)))
+    last-word h = rw (eq-eqb (length b) requestSize sixteen, ne-eqb (wordAt b 12) 0 (rw at12 at h))
 
-    module _ (zero-last : last ≡ 0) {code count : ℕ} (at0 : code ≡ wordOf b) (at8 : count ≡ wordOf (from b 8)) where
+    module _ (zero-last : last ≡ 0) {code count : ℕ} (at0 : code ≡ wordAt b 0) (at8 : count ≡ wordAt b 8) where
       pub stray-count : countAllowed code count ≡ false → Malformed ≡ parse b
       unfolding parse
-      stray-count h =
-          rw (eq-eqb (length b) 16 sixteen, eq-eqb (wordOf (drop 12 b)) 0 (sym (word-from b 12 at12) ∙ zero-last), ← at0, ← word-from b 8 at8, h)
+      stray-count h = rw (eq-eqb (length b) requestSize sixteen, eq-eqb (wordAt b 12) 0 (rw at12 at zero-last), ← at0, ← at8, h)
 
-      pub whole : {argument : ℕ} → argument ≡ wordOf (from b 4) → countAllowed code count ≡ true → operation code argument count ≡ parse b
+      pub whole : {argument : ℕ} → argument ≡ wordAt b 4 → countAllowed code count ≡ true → operation code argument count ≡ parse b
       unfolding parse
-      whole at4 h =
-          rw (← word-from b 4 at4, eq-eqb (length b) 16 sixteen, eq-eqb (wordOf (drop 12 b)) 0 (sym (word-from b 12 at12) ∙ zero-last), ← at0, ← word-from b 8 at8, h)
+      whole at4 h = rw (← at4, eq-eqb (length b) requestSize sixteen, eq-eqb (wordAt b 12) 0 (rw at12 at zero-last), ← at0, ← at8, h)
+
+-- a stored number is read as it was
+stored : (n : ℕ) → n < 2 ^ 32 → wordOf (bytesOf n) ≡ n
+stored n h =
+    let two : n / 65536 ≡ n / 256 / 256 = sym (div-div-eq-div-mul n 256 256) in
+    let three : n / 16777216 ≡ n / 65536 / 256 = sym (div-div-eq-div-mul n 65536 256) in
+    let top : n / 16777216 % 256 ≡ n / 16777216 = mod-eq-of-lt (omega arith) in
+    omega (arith, div-add-mod' n 256, div-add-mod' (n / 256) 256, div-add-mod' (n / 65536) 256)
+
+-- reading undoes encoding
+pub encoded : (code argument count : ℕ) → code < 2 ^ 32 → argument < 2 ^ 32 → count < 2 ^ 32 → countAllowed code count ≡ true
+    → parse (requestBytes code argument count) ≡ operation code argument count
+unfolding parse
+encoded code argument count p q r h =
+    let allowed : countAllowed (wordOf (bytesOf code)) (wordOf (bytesOf count)) ≡ true =
+    (λ i. countAllowed (stored code p i) (stored count r i)) ∙ h in
+    rw allowed (λ i. operation (stored code p i) (stored argument q i) (stored count r i))
+
+-- three words stored in sixteen zeros are a request's bytes
+pub words-stored : (code argument count : ℕ) {a b c : List ℕ} → a ≡ putWord (replicate requestSize 0) 0 code → b ≡ putWord a 4 argument
+    → c ≡ putWord b 8 count
+    → c ≡ requestBytes code argument count
+words-stored code argument count p q r = r ∙ rw (q, p)

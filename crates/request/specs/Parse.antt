@@ -1,11 +1,11 @@
 -- Requests from any bytes (the paper's tickets). Sixteen bytes are four words: the operation, its size or offset, its count, and zero; an
 -- operation is below 256, so its word is its byte with three zero bytes.
 use Prim.Native.Nat.{ℕ}
-use mathlib.Core.List.{List, [], _∷_, map}
+use mathlib.Core.List.{List, [], _∷_, _++_, map}
 use mathlib.Core.Bool.{Bool, _&&_, _||_, cond}
-use lib.ListN.{length, getD, drop}
+use lib.ListN.{length, getD}
 use lib.Dec.{eqb}
-use Rattle.words.specs.Word.{wordOf}
+use Rattle.words.specs.Word.{bytesOf, wordAt}
 use Rattle.request.specs.declared.Request.{Request}
 use Rattle.request.specs.declared.Request.the-variants.{Allocate, Free, Remaining, Copy}
 use Rattle.request.specs.declared.Kind.the-variants.{Bytes, String, Padded}
@@ -24,8 +24,16 @@ operation code argument count = getD (map Whole (operations argument count)) cod
 abbrev pub countAllowed : ℕ → ℕ → Bool
 countAllowed code count = eqb count 0 || eqb code 5
 
+-- four words
+abbrev pub requestSize : ℕ
+requestSize = 16
+
 unfoldable pub parse : List ℕ → Parsed
 parse b =
-    let code : ℕ = wordOf b in
-    let count : ℕ = wordOf (drop 8 b) in
-    cond (eqb (length b) 16 && eqb (wordOf (drop 12 b)) 0 && countAllowed code count) (operation code (wordOf (drop 4 b)) count) Malformed
+    let code : ℕ = wordAt b 0 in
+    let count : ℕ = wordAt b 8 in
+    cond (eqb (length b) requestSize && eqb (wordAt b 12) 0 && countAllowed code count) (operation code (wordAt b 4) count) Malformed
+
+-- the bytes of a request
+abbrev pub requestBytes : ℕ → ℕ → ℕ → List ℕ
+requestBytes code argument count = bytesOf code ++ (bytesOf argument ++ (bytesOf count ++ bytesOf 0))

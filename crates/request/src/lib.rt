@@ -1,6 +1,9 @@
 // Requests: sixteen bytes, read whole into an enum or found malformed.
 ghost use mathlib.Core.Path.{_≡_};
-ghost use Rattle.request.specs.Parse.{operation, countAllowed, parse};
+ghost use Rattle.request.specs.Parse.{operation, countAllowed, parse, requestBytes};
+
+// The bytes of a request: four words.
+pub const SIZE: usize = 16;
 
 // What a copy writes: the source; the source through its first zero byte; or the source before it, and zeros up to a count.
 pub enum Kind {
@@ -45,16 +48,27 @@ fn count_allowed(code: u32, count: u32) -> bool
 pub fn read(bytes: &[u8]) -> Parsed
     ensures { λ r. ⌜ r ≡ parse (now (bytes .entry)) ⌝ }
 {
-    if bytes.len() != 16 {
+    if bytes.len() != SIZE {
         return Parsed::Malformed;
     }
-    if words::get(&bytes[12..]) != 0 {
+    if words::get(bytes, 12) != 0 {
         return Parsed::Malformed;
     }
-    let code = words::get(bytes);
-    let count = words::get(&bytes[8..]);
+    let code = words::get(bytes, 0);
+    let count = words::get(bytes, 8);
     if !count_allowed(code, count) {
         return Parsed::Malformed;
     }
-    of_operation(code, words::get(&bytes[4..]), count)
+    of_operation(code, words::get(bytes, 4), count)
+}
+
+// The bytes of a request.
+pub fn encode(code: u32, argument: u32, count: u32) -> [u8; SIZE]
+    ensures { λ r. ⌜ r ≡ requestBytes code argument count ⌝ }
+{
+    let mut bytes = [0u8; SIZE];
+    words::put(&mut bytes, 0, code);
+    words::put(&mut bytes, 4, argument);
+    words::put(&mut bytes, 8, count);
+    bytes
 }

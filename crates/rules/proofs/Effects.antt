@@ -1,28 +1,28 @@
 -- What a served allocation and a served free find in the metadata and leave there, slot by slot.
-use Prim.Native.Nat.{ℕ, suc, _+_, _-_, _*_, _/_, _≤_, _<_}
+use Prim.Native.Nat.{ℕ, suc, _+_, _*_, _/_, _≤_, _<_}
 use mathlib.Core.Path.{_≡_, ap, _∙_}
 use mathlib.Core.List.{List}
 use native.Mathlib.Nat.{zero-div}
 use native.Mathlib.Decide.{ℕ-discrete, decLt}
 use native.Mathlib.Omega.{arith}
-use lib.ListN.{length, drop, length-take, length-replicate}
+use lib.ListN.{length, drop, replicate, length-take, length-replicate}
 use lib.Seq.{getD-take, getD-drop}
 use Rattle.mwc.specs.declared.Generator.{Generator}
 use Rattle.geometry.specs.declared.Layout.{Layout}
-use Rattle.geometry.specs.Layout.{classes, classOf, slots, slotStart, header, bitmapAt, bitmapLength, metadataLength}
+use Rattle.geometry.specs.Layout.{classes, classOf, slots, slotStart, bitmapAt, bitmapLength, metadataLength}
 use Rattle.geometry.proofs.Geometry.{bitmap-after}
 use Rattle.geometry.proofs.Slots.{slots-class}
 use Rattle.bitmap.specs.Bitmap.{bit, setSlot, countSet}
 use Rattle.bitmap.proofs.Slot.{bit-past}
 use Rattle.bitmap.proofs.Change.{Turned, set-turns, clear-turns}
 use Rattle.writing.specs.Overwrite.{overwrite}
-use Rattle.rules.specs.Metadata.{fieldsOf, bitmapOf}
+use Rattle.rules.specs.Metadata.{bitmapOf}
 use Rattle.rules.specs.Open.{Setup, fresh}
 use Rattle.rules.specs.Outcome.{allocated, freed, metadataAfter}
 use Rattle.rules.specs.Allocate.{allocate}
 use Rattle.rules.specs.Object.{free}
 use Rattle.writing.proofs.Writing.{overwrite-length}
-use Rattle.rules.proofs.Metadata.{fields-written, bitmap-within, bitmap-length, bitmap-written, bitmap-other, fresh-zero}
+use Rattle.rules.proofs.Metadata.{generator-length, fields-written, bitmap-within, bitmap-length, bitmap-written, bitmap-other, zeros}
 use Rattle.rules.proofs.Finding.{allocate-finds, free-finds}
 
 -- the bit of slot i of class c
@@ -79,7 +79,7 @@ module _ (G : Layout) (m : List ℕ) (fits : length m ≡ metadataLength G) wher
       let byte : i / 8 < length b = omega (arith, bitmap-length G m fits c (t .class)) in
       let now : Changed G m m′ c i 1 = turned (t .class) (set-turns b (slots G c) i (t .slot) byte (t .clear)) in
       record {
-        fits = overwrite-length m′ 0 (fieldsOf g) (omega (arith, bitmap-after G classes)) ∙ now .fits;
+        fits = generator-length m′ g ∙ now .fits;
         here = ap (λ (x : List ℕ). bit x i) (fields-written G m′ g c) ∙ now .here;
         elsewhere = λ d j l f. ap (λ (x : List ℕ). bit x j) (fields-written G m′ g d) ∙ now .elsewhere d j l f;
       }
@@ -97,11 +97,12 @@ module _ (G : Layout) (m : List ℕ) (fits : length m ≡ metadataLength G) wher
 
 -- opening leaves every slot clear
 pub fresh-fits : (G : Layout) (s : Setup) → length (fresh G s) ≡ metadataLength G
-fresh-fits G s = omega (arith, length-replicate {A = ℕ} (metadataLength G - header) 0, bitmap-after G classes)
+fresh-fits G s = generator-length (replicate (metadataLength G) 0) (s .seeds) ∙ length-replicate (metadataLength G) 0
 
 pub fresh-clear : (G : Layout) (s : Setup) (c i : ℕ) → liveBit G (fresh G s) c i ≡ 0
 fresh-clear G s c i =
+    let blank : List ℕ = replicate (metadataLength G) 0 in
     elim (decLt (i / 8) (bitmapLength G c)) [
-      | yes h ↦ rw (getD-take, getD-drop, fresh-zero G s (bitmapAt G c + i / 8) (omega (arith, bitmap-after G c)), zero-div)
+      | yes h ↦ rw (fields-written G blank (s .seeds) c, getD-take, getD-drop, zeros, zero-div)
       | no h ↦ bit-past (bitmapOf G c (fresh G s)) i (omega (arith, length-take (bitmapLength G c) (drop (bitmapAt G c) (fresh G s))))
     ]

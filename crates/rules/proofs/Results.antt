@@ -1,15 +1,16 @@
 -- What a request comes to, and what that does to the slots.
-use Prim.Native.Nat.{ℕ, min, _+_, _<_}
+use Prim.Native.Nat.{ℕ, _+_, _<_}
 use mathlib.Core.Path.{_≡_, refl}
 use mathlib.Core.Bool.{Bool, true, false, cond}
 use mathlib.Core.List.{List, []}
 use mathlib.Core.Logic.{Dec·and}
 use native.Mathlib.Decide.{ℕ-discrete}
 use native.Mathlib.Omega.{arith}
-use lib.ListN.{length, take}
+use lib.ListN.{length}
 use Rattle.mwc.specs.declared.Generator.{Generator}
 use Rattle.geometry.specs.declared.Layout.{Layout}
 use Rattle.geometry.specs.Layout.{classOf, slots, slotStart, locate, metadataLength}
+use Rattle.request.specs.declared.Kind.{Kind}
 use Rattle.request.specs.declared.Request.{Request}
 use Rattle.request.specs.declared.Request.the-variants.{Allocate, Free, Remaining, Copy}
 use Rattle.request.specs.declared.Parsed.{Parsed}
@@ -17,8 +18,8 @@ use Rattle.request.specs.declared.Parsed.the-variants.{Whole, Malformed}
 use Rattle.answer.specs.declared.Refusal.{Refusal}
 use Rattle.rules.specs.Outcome.{Outcome, refused, allocated, freed, told, reply, metadataAfter}
 use Rattle.rules.specs.Allocate.{taken, allocate}
-use Rattle.rules.specs.Object.{space, free, remaining, copy, contentOf}
-use Rattle.rules.specs.Serve.{act}
+use Rattle.rules.specs.Object.{space, free, remaining, writes, copy}
+use Rattle.rules.specs.Serve.{Lent, act}
 use Rattle.rules.specs.Run.{Step, Event}
 use Rattle.rules.specs.Pair.{Measures}
 use Rattle.rules.proofs.Effects.{liveBit, Takes, Ends, Changed, allocate-takes, allocate-changes, free-ends, free-changes}
@@ -69,10 +70,10 @@ module _ (G : Layout) (m : List ℕ) where
   unfolding remaining
   remaining-comes offset = search (guarded, serves)
 
-  pub copy-comes : (offset : ℕ) (content : List ℕ)
-      → let n = min (length content) (space G m offset) in Comes (told n offset (take n content)) (copy G m offset content)
+  pub copy-comes : (offset : ℕ) (kind : Kind) (source : List ℕ)
+      → let bytes = writes kind source (space G m offset) in Comes (told (length bytes) offset bytes) (copy G m offset kind source)
   unfolding copy
-  copy-comes offset content = search (guarded, serves)
+  copy-comes offset kind source = search (guarded, serves)
 
   -- so a served outcome's result is enough
   served-or-refused : (p : Parsed) {o o′ : Outcome} → Comes o o′ → (o′ ≡ o → (x : Change) × Result G m p o x) → (x : Change) × Result G m p o′ x
@@ -80,16 +81,16 @@ module _ (G : Layout) (m : List ℕ) where
   served-or-refused p serves f = f refl
 
   -- every request has a result
-  pub result : length m ≡ metadataLength G → (source : List ℕ) (p : Parsed) → (x : Change) × Result G m p (act G m source p) x
-  result fits source (Whole (Allocate size)) =
+  pub result : length m ≡ metadataLength G → (lent : Lent) (p : Parsed) → (x : Change) × Result G m p (act G m lent p) x
+  result fits lent (Whole (Allocate size)) =
       served-or-refused _ (allocate-comes size)
       (λ e. let (class, takes) = allocate-takes G m fits size e in (turn 1 _ _, allocation size class refl takes))
-  result fits source (Whole (Free offset)) =
+  result fits lent (Whole (Free offset)) =
       served-or-refused _ (free-comes offset)
       (λ e. let (start, ends) = free-ends G m fits offset e in (turn 0 _ _, freeing offset start ends))
-  result fits source (Whole (Remaining offset)) = served-or-refused _ (remaining-comes offset) (λ e. (none, measuring _ tt _ _ _))
-  result fits source (Whole (Copy offset kind)) = served-or-refused _ (copy-comes offset (contentOf kind source)) (λ e. (none, measuring _ tt _ _ _))
-  result fits source Malformed = (none, refusal Malformed _)
+  result fits lent (Whole (Remaining offset)) = served-or-refused _ (remaining-comes offset) (λ e. (none, measuring _ tt _ _ _))
+  result fits lent (Whole (Copy offset kind)) = served-or-refused _ (copy-comes offset kind (lent .source)) (λ e. (none, measuring _ tt _ _ _))
+  result fits lent Malformed = (none, refusal Malformed _)
 
 -- ---- a change, in the metadata
 

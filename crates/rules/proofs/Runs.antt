@@ -14,7 +14,7 @@ use Rattle.rules.specs.Run.{Entry, HeapsOfLength, Event, stepOf, trace, 
 use Rattle.rules.specs.Pair.{Pair, PairOff}
 use Rattle.rules.specs.Live.{Object, objectsAfter, live, Sound}
 use Rattle.rules.proofs.Effects.{fresh-fits}
-use Rattle.rules.proofs.Serving.{serve-acts}
+use Rattle.rules.proofs.Serving.{no-heap, serve-acts}
 use Rattle.rules.proofs.Results.{result, made, made-length}
 use Rattle.rules.proofs.Pairing.{pair-steps, steps-pair}
 use Rattle.rules.proofs.Tracking.{Tracks, tracks-sound, fresh-tracks, result-tracks}
@@ -26,7 +26,7 @@ eventOf m e = record { asked = parse (e .request); answer = stepOf m e .answer }
 -- a served opening has a layout, and leaves fresh metadata
 module _ (n : ℕ) (m : List ℕ) (s : Setup) (e : openReply n (length m) s .number ≡ 0) where
   has-layout : regionOf n ≡ 0 → ⊥
-  has-layout z = let q : openReply n (length m) s .number ≡ 2 = rw (eq-eqb (regionOf n) 0 z) in omega arith
+  has-layout z = let q : openReply n (length m) s .number ≡ 2 = rw (no-heap n (length m) z) in omega arith
 
   opened-fresh : opened n m s ≡ fresh (layoutOf n) s
   opened-fresh = rw (eq-eqb (openReply n (length m) s .number) 0 e)
@@ -35,12 +35,12 @@ module _ (n : ℕ) (region : regionOf n ≡ 0 → ⊥) where
   -- ---- one request
 
   module _ (m : List ℕ) (fits : length m ≡ metadataLength (layoutOf n)) where
-    acts : (e : Entry) → serve n m (e .request) (e .source) ≡ act (layoutOf n) m (e .source) (parse (e .request))
-    acts e = serve-acts n m (e .request) (e .source) refl region fits
+    acts : (e : Entry) → serve n m (e .request) (e .lent) ≡ act (layoutOf n) m (e .lent) (parse (e .request))
+    acts e = serve-acts n m (e .request) (e .lent) region fits
 
     step-fits : (e : Entry) → length (e .heap) ≡ n → length (stepOf m e .metadata) ≡ metadataLength (layoutOf n)
     step-fits e h =
-        let (x, r) = result (layoutOf n) m fits (e .source) (parse (e .request)) in
+        let (x, r) = result (layoutOf n) m fits (e .lent) (parse (e .request)) in
         rw (h, acts e) (made-length (layoutOf n) m _ x (made (layoutOf n) m fits r) ∙ fits)
 
     step-pairs : (e f : Entry) → length (e .heap) ≡ n → length (f .heap) ≡ n
@@ -52,7 +52,7 @@ module _ (n : ℕ) (region : regionOf n ≡ 0 → ⊥) where
     step-tracks : (e : Entry) → length (e .heap) ≡ n → (os : List Object) → Tracks (layoutOf n) m os
         → Tracks (layoutOf n) (stepOf m e .metadata) (objectsAfter (layoutOf n) os (eventOf m e))
     step-tracks e h os t =
-        let (x, r) = result (layoutOf n) m fits (e .source) (parse (e .request)) in
+        let (x, r) = result (layoutOf n) m fits (e .lent) (parse (e .request)) in
         rw (h, acts e)
         (result-tracks (layoutOf n) m _ os t r (made (layoutOf n) m fits r))
 

@@ -1,7 +1,7 @@
 -- Allocating (the paper's placing): a random slot of the smallest class that holds the size.
 use Prim.Native.Nat.{ℕ, zero, suc, _/_, _%_}
-use mathlib.Core.List.{List}
-use mathlib.Core.Bool.{true, false, cond, _||_}
+use mathlib.Core.List.{List, [], _∷_}
+use mathlib.Core.Bool.{true, false, _||_}
 use lib.Dec.{leb, ltb, eqb}
 use Rattle.mwc.specs.declared.Generator.{Generator}
 use Rattle.mwc.specs.Draw.{next, drawn}
@@ -9,6 +9,7 @@ use Rattle.geometry.specs.declared.Layout.{Layout}
 use Rattle.geometry.specs.Layout.{classes, classOf, slots}
 use Rattle.bitmap.specs.Bitmap.{isSet, countSet, nextClear}
 use Rattle.answer.specs.declared.Refusal.the-variants.{UnsupportedSize, ClassTooSmall, ClassAtCapacity}
+use Rattle.answer.specs.Checks.{_when_, checked}
 use Rattle.rules.specs.declared.Found.{Found}
 use Rattle.rules.specs.Metadata.{generatorOf, bitmapOf}
 use Rattle.rules.specs.Outcome.{Outcome, refused, allocated}
@@ -34,6 +35,9 @@ unfoldable pub allocate : Layout → List ℕ → ℕ → Outcome
 allocate G m size =
     let c : ℕ = classOf G size in
     let n : ℕ = slots G c in
-    cond (eqb size 0 || eqb c classes) (refused UnsupportedSize)
-    (cond (ltb n 2) (refused ClassTooSmall)
-    (cond (leb (n / 2) (countSet (bitmapOf G c m) n)) (refused ClassAtCapacity) (taken G m c)))
+    checked refused
+    (UnsupportedSize when (eqb size 0 || eqb c classes)
+    ∷ ClassTooSmall when ltb n 2
+    ∷ ClassAtCapacity when leb (n / 2) (countSet (bitmapOf G c m) n)
+    ∷ [])
+    (taken G m c)

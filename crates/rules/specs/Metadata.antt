@@ -1,18 +1,18 @@
 -- The metadata (the paper's book): the generator's two halves, then the bitmaps.
 use Prim.Native.Nat.{ℕ}
-use mathlib.Core.List.{List, _++_}
+use mathlib.Core.List.{List}
 use lib.ListN.{take, drop}
-use Rattle.words.specs.Word.{wordOf, bytesOf}
+use Rattle.words.specs.Word.{wordAt, putWord}
 use Rattle.mwc.specs.declared.Generator.{Generator}
 use Rattle.geometry.specs.declared.Layout.{Layout}
 use Rattle.geometry.specs.Layout.{bitmapAt, bitmapLength}
 
+-- the fields before the bitmaps: z is the word at 0, w that at 4
 abbrev pub generatorOf : List ℕ → Generator
-generatorOf m = record { z = wordOf m; w = wordOf (drop 4 m) }
+generatorOf m = record { z = wordAt m 0; w = wordAt m 4 }
 
--- the fields before the bitmaps
-abbrev pub fieldsOf : Generator → List ℕ
-fieldsOf g = bytesOf (g .z) ++ bytesOf (g .w)
+abbrev pub withGenerator : List ℕ → Generator → List ℕ
+withGenerator m g = putWord (putWord m 0 (g .z)) 4 (g .w)
 
 -- the part that holds a class's bitmap
 abbrev pub bitmapOf : Layout → ℕ → List ℕ → List ℕ

@@ -1,6 +1,6 @@
 -- Freeing an object, its remaining size, and copies into it. Where no slot is, none is live.
-use Prim.Native.Nat.{ℕ, suc, _-_, min}
-use mathlib.Core.List.{List, [], _++_}
+use Prim.Native.Nat.{ℕ, suc, _-_}
+use mathlib.Core.List.{List, [], _∷_, _++_}
 use mathlib.Core.Bool.{Bool, not, cond, _&&_}
 use lib.ListN.{length, take, drop, replicate}
 use lib.Dec.{leb, ltb, eqb}
@@ -10,6 +10,7 @@ use Rattle.geometry.specs.declared.Location.{Location}
 use Rattle.geometry.specs.Layout.{heapLength, slotSize, slots, locate}
 use Rattle.bitmap.specs.Bitmap.{isSet}
 use Rattle.answer.specs.declared.Refusal.the-variants.{OutOfRange, NotASlotStart, NotAllocated}
+use Rattle.answer.specs.Checks.{Check, _when_, checked}
 use Rattle.request.specs.declared.Kind.{Kind}
 use Rattle.request.specs.declared.Kind.the-variants.{Bytes, String, Padded}
 use Rattle.rules.specs.Metadata.{bitmapOf}
@@ -22,16 +23,19 @@ isLive G m l = isSet (bitmapOf G (l .class) m) (slots G (l .class)) (l .slot)
 abbrev pub isStart : Layout → Location → Bool
 isStart G l = eqb (l .into) 0 && ltb (l .slot) (slots G (l .class))
 
--- an outcome at an offset of the heap
-abbrev pub inRange : Layout → ℕ → Outcome → Outcome
-inRange G offset outcome = cond (leb (heapLength G) offset) (refused OutOfRange) outcome
+-- refused past the heap's end
+abbrev pub ifPast : Layout → ℕ → Check
+ifPast G offset = OutOfRange when leb (heapLength G) offset
 
 unfoldable pub free : Layout → List ℕ → ℕ → Outcome
 free G m offset =
     let l : Location = locate G offset in
-    inRange G offset
-    (cond (not (isStart G l)) (refused NotASlotStart)
-    (cond (not (isLive G m l)) (refused NotAllocated) (freed (l .class) (l .slot))))
+    checked refused
+    (ifPast G offset
+    ∷ NotASlotStart when not (isStart G l)
+    ∷ NotAllocated when not (isLive G m l)
+    ∷ [])
+    (freed (l .class) (l .slot))
 
 -- the bytes from an offset to the end of the live object that it lies in; 0 where it lies in none (the paper's measured space)
 unfoldable pub space : Layout → List ℕ → ℕ → ℕ
@@ -40,17 +44,16 @@ space G m offset =
     cond (isLive G m l) (slotSize G (l .class) - l .into) 0
 
 unfoldable pub remaining : Layout → List ℕ → ℕ → Outcome
-remaining G m offset = inRange G offset (told (space G m offset) offset [])
+remaining G m offset = checked refused (ifPast G offset ∷ []) (told (space G m offset) offset [])
 
--- a copy writes its content from the first byte on, as far as the space goes
-unfoldable pub copy : Layout → List ℕ → ℕ → List ℕ → Outcome
-copy G m offset content =
-    let n : ℕ = min (length content) (space G m offset) in
-    inRange G offset (told n offset (take n content))
+-- what a copy of each kind writes in a given room, from the first byte on (the paper's plain, text and counted copy): the source; the source
+-- through its first zero byte, or to its end; the source before its first zero byte or end, and then zeros, count bytes in all
+abbrev pub writes : Kind → List ℕ → ℕ → List ℕ
+writes Bytes source room = take room source
+writes String source room = take room (take (suc (indexOf 0 source)) source)
+writes (Padded count) source room = take room (take count (take (indexOf 0 source) source ++ replicate count 0))
 
--- what a copy of each kind would write with room for all of it (the paper's plain, text and counted copy): the source; the source through its
--- first zero byte, or to its end; the source before its first zero byte or end, and then zeros, count bytes in all
-abbrev pub contentOf : Kind → List ℕ → List ℕ
-contentOf Bytes source = source
-contentOf String source = take (suc (indexOf 0 source)) source
-contentOf (Padded count) source = take count (take (indexOf 0 source) source ++ replicate count 0)
+unfoldable pub copy : Layout → List ℕ → ℕ → Kind → List ℕ → Outcome
+copy G m offset kind source =
+    let bytes : List ℕ = writes kind source (space G m offset) in
+    checked refused (ifPast G offset ∷ []) (told (length bytes) offset bytes)

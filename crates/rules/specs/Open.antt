@@ -1,15 +1,18 @@
 -- Opening a heap: fresh metadata, and the heap's bytes as they are.
-use Prim.Native.Nat.{ℕ, _-_}
-use mathlib.Core.List.{List, _++_}
-use mathlib.Core.Bool.{not, cond, _||_}
+use Prim.Native.Nat.{ℕ}
+use mathlib.Core.List.{List, [], _∷_}
+use mathlib.Core.Bool.{cond}
 use lib.ListN.{length, replicate}
 use lib.Dec.{eqb}
 use Rattle.mwc.specs.declared.Generator.{Generator}
+use Rattle.mwc.specs.Draw.{isUnusable}
 use Rattle.geometry.specs.declared.Layout.{Layout}
-use Rattle.geometry.specs.Layout.{layoutOf, header, metadataLength}
-use Rattle.answer.specs.declared.Refusal.the-variants.{ZeroSeed, HeapLength, MetadataLength}
+use Rattle.geometry.specs.Layout.{layoutOf, metadataLength}
+use Rattle.answer.specs.declared.Refusal.the-variants.{ZeroSeed}
 use Rattle.answer.specs.Reply.{Reply, served, refusedBy}
-use Rattle.rules.specs.Metadata.{fieldsOf}
+use Rattle.answer.specs.Checks.{_when_, checked}
+use Rattle.rules.specs.Metadata.{withGenerator}
+use Rattle.rules.specs.Judge.{judge, onceLaid}
 
 -- what an opening is given
 pub record Setup : Type 0 where
@@ -21,14 +24,11 @@ setup z w = record { seeds = record { z = z; w = w } }
 -- by the heap's and the metadata's lengths
 abbrev pub openReply : ℕ → ℕ → Setup → Reply
 openReply heapBytes metadataBytes s =
-    let G : Layout = layoutOf heapBytes in
-    cond (eqb (G .region) 0) (refusedBy HeapLength)
-    (cond (not (eqb metadataBytes (metadataLength G))) (refusedBy MetadataLength)
-    (cond (eqb (s .seeds .z) 0 || eqb (s .seeds .w) 0) (refusedBy ZeroSeed) (served 0)))
+    onceLaid refusedBy (λ G. checked refusedBy (ZeroSeed when isUnusable (s .seeds) ∷ []) (served 0)) (judge heapBytes metadataBytes)
 
--- metadata as an opening writes it: the fields and clear bitmaps
+-- metadata as an opening writes it: the generator, and clear bitmaps
 abbrev pub fresh : Layout → Setup → List ℕ
-fresh G s = fieldsOf (s .seeds) ++ replicate (metadataLength G - header) 0
+fresh G s = withGenerator (replicate (metadataLength G) 0) (s .seeds)
 
 -- the metadata afterwards
 abbrev pub opened : ℕ → List ℕ → Setup → List ℕ

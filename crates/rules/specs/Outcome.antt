@@ -9,7 +9,7 @@ use Rattle.bitmap.specs.Bitmap.{setSlot, clearSlot}
 use Rattle.answer.specs.declared.Refusal.{Refusal}
 use Rattle.answer.specs.Reply.{Reply, served, refusedBy}
 use Rattle.writing.specs.Overwrite.{overwrite}
-use Rattle.rules.specs.Metadata.{fieldsOf, bitmapOf}
+use Rattle.rules.specs.Metadata.{withGenerator, bitmapOf}
 
 pub data Outcome : Type 0 where
   refused : Refusal → Outcome
@@ -29,12 +29,12 @@ reply G (told value offset bytes) = served value
 abbrev pub metadataAfter : Layout → List ℕ → Outcome → List ℕ
 metadataAfter G m (refused r) = m
 metadataAfter G m (allocated c i g) =
-    overwrite (overwrite m (bitmapAt G c) (setSlot (bitmapOf G c m) (slots G c) i)) 0 (fieldsOf g)
+    withGenerator (overwrite m (bitmapAt G c) (setSlot (bitmapOf G c m) (slots G c) i)) g
 metadataAfter G m (freed c i) = overwrite m (bitmapAt G c) (clearSlot (bitmapOf G c m) (slots G c) i)
 metadataAfter G m (told value offset bytes) = m
 
-abbrev pub heapAfter : List ℕ → Outcome → List ℕ
-heapAfter h (refused r) = h
-heapAfter h (allocated c i g) = h
-heapAfter h (freed c i) = h
-heapAfter h (told value offset bytes) = overwrite h offset bytes
+abbrev pub heapAfter : Layout → List ℕ → List ℕ → Outcome → List ℕ
+heapAfter G m h (refused r) = h
+heapAfter G m h (allocated c i g) = h
+heapAfter G m h (freed c i) = h
+heapAfter G m h (told value offset bytes) = overwrite h offset bytes

@@ -6,15 +6,14 @@ use mathlib.Core.List.{List, [], _∷_}
 use lib.ListN.{length}
 use Rattle.request.specs.declared.Parsed.{Parsed}
 use Rattle.request.specs.Parse.{parse}
-use Rattle.geometry.specs.Layout.{layoutOf}
 use Rattle.answer.specs.Reply.{Reply}
-use Rattle.rules.specs.Outcome.{Outcome, reply, metadataAfter}
-use Rattle.rules.specs.Serve.{serve}
+use Rattle.rules.specs.Serve.{Lent}
+use Rattle.rules.specs.Call.{Call, call}
 
--- a request's bytes, its source, and the bytes of the heap lent to it
+-- a request's bytes, what is lent beside it, and the bytes of the heap lent to it
 pub record Entry : Type 0 where
   pub request : List ℕ
-  pub source : List ℕ
+  pub lent : Lent
   pub heap : List ℕ
 
 -- every heap lent has n bytes
@@ -29,8 +28,8 @@ pub record Step : Type 0 where
 
 abbrev pub stepOf : List ℕ → Entry → Step
 stepOf m e =
-    let outcome : Outcome = serve (length (e .heap)) m (e .request) (e .source) in
-    record { answer = reply (layoutOf (length (e .heap))) outcome; metadata = metadataAfter (layoutOf (length (e .heap))) m outcome }
+    let c : Call = call (e .heap) m (e .request) (e .lent) in
+    record { answer = c .answer; metadata = c .metadata }
 
 -- what can be seen of a run
 unfoldable pub trace : List ℕ → List Entry → List Step

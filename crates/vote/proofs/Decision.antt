@@ -10,8 +10,8 @@ use borrow.Author.Tests.{lt-ltb, le-ltb, ltb-false, eqb-true, not-false}
 use Rattle.answer.specs.declared.Refusal.the-variants.{InvalidVote, NoAgreement}
 use Rattle.vote.specs.declared.elect.Elected.{Elected}
 use Rattle.vote.specs.Groups.{electedOf}
-use Rattle.writing.specs.Overwrite.{clip}
-use Rattle.writing.proofs.Clip.{clip-fits}
+use lib.Seq.{take-all}
+use Rattle.writing.specs.Overwrite.{overwrite}
 use Rattle.vote.specs.Decide.{blockOf, tabulate, agree, agreements, digits, votes, maskOf, leader, invalid, won, lost, count, decide}
 use Rattle.alike.proofs.Equal.{alike-self}
 use Rattle.vote.proofs.Blocks.{part, part-block, part-length, block-within}
@@ -122,5 +122,5 @@ module _ {blocks : List ℕ} {k size n : ℕ} {table : List (List Bool)} {w : El
   -- its block is put to the front of an output
   pub found-put : (output : List ℕ) → length output ≡ n
       → let block = blockOf blocks size (w .replica) in
-      clip (part blocks (w .replica * size) size) output ≡ block ++ drop (length block) output
-  found-put output e = clip-fits (part blocks (w .replica * size) size) output (rw e found-room) ∙ rw part-block
+      overwrite output 0 (take (length output) (part blocks (w .replica * size) size)) ≡ block ++ drop (length block) output
+  found-put output e = rw (take-all (length output) (part blocks (w .replica * size) size) (rw e found-room), part-block)

@@ -12,6 +12,18 @@ use Rattle.answer.specs.Reply.{numberOf}
 use Rattle.vote.specs.declared.Verdict.{Verdict}
 use Rattle.vote.specs.declared.Verdict.the-variants.{Agreed, Refused}
 
+-- ---- limits
+
+-- replicas from 3 to 16, and blocks of up to 4,096 bytes
+abbrev pub fewest : ℕ
+fewest = 3
+
+abbrev pub most : ℕ
+most = 16
+
+abbrev pub longest : ℕ
+longest = 4096
+
 -- ---- comparing
 
 -- the block of replica r
@@ -29,7 +41,7 @@ agree blocks k size i j = ltb i k && ltb j k && alike (blockOf blocks size i) (b
 
 -- a row for each replica, which says of each other whether the two agree
 abbrev pub agreements : List ℕ → ℕ → ℕ → List (List Bool)
-agreements blocks k size = tabulate (λ i. tabulate (λ j. agree blocks k size i j) 0 16) 0 16
+agreements blocks k size = tabulate (λ i. tabulate (λ j. agree blocks k size i j) 0 most) 0 most
 
 -- ---- the winner
 
@@ -57,7 +69,7 @@ leader table (suc i) =
 -- a number of replicas, a length of block, a length of buffer or of output that is not allowed (the paper's bad ballot)
 abbrev pub invalid : ℕ → ℕ → ℕ → ℕ → Bool
 invalid blocksLength k size outputLength =
-    ltb k 3 || ltb 16 k || ltb size 1 || ltb 4096 size || not (eqb blocksLength (k * size)) || ltb outputLength size
+    ltb k fewest || ltb most k || ltb size 1 || ltb longest size || not (eqb blocksLength (k * size)) || ltb outputLength size
 
 -- what a vote comes to: the row of the winning replicas and the block that they share, or a refusal
 pub data Decision : Type 0 where

@@ -14,7 +14,8 @@ const SHORT_STRIDE: usize = 16;
 // Whether the n bytes at three places are those at the first. It has no early exit, so that it is vector code, without a loop where n is known;
 // and it reads the first once for three. Where a place is passed twice the compiler compares it once.
 fn folded(blocks: &[u8], n: usize, a: usize, b: usize, c: usize, d: usize) -> bool
-    requires { ⌜ (a + n ≤ length (now blocks)) × (b + n ≤ length (now blocks)) × (c + n ≤ length (now blocks)) × (d + n ≤ length (now blocks)) ⌝ }
+    requires { let all = length (now blocks) in
+        ⌜ (a + n ≤ all) × (b + n ≤ all) × (c + n ≤ all) × (d + n ≤ all) ⌝ }
     ensures { λ r. ⌜ r ≡ allAlike (now (blocks .entry)) n a b c d ⌝ }
 {
     let mut differ: u8 = 0;
@@ -37,7 +38,9 @@ fn matching(
     c: usize,
     d: usize,
 ) -> usize
-    requires { ⌜ (a + most * stride ≤ length (now blocks)) × (b + most * stride ≤ length (now blocks)) × (c + most * stride ≤ length (now blocks)) × (d + most * stride ≤ length (now blocks)) ⌝ }
+    requires { let all = length (now blocks) in
+        let n = most * stride in
+        ⌜ (a + n ≤ all) × (b + n ≤ all) × (c + n ≤ all) × (d + n ≤ all) ⌝ }
     ensures { λ r. ⌜ r ≡ matchingAll (now (blocks .entry)) stride a b c d most ⌝ }
 {
     let mut at: usize = 0;

@@ -7,6 +7,8 @@ ghost use mathlib.Core.Path.{_≡_};
 ghost use lib.ListN.{length};
 ghost use Rattle.vote.specs.Decide.{invalid, decide, tally, tallyOf, outputAfter, NamesWinner};
 
+const FEWEST_REPLICAS: usize = 3;
+
 const MOST_REPLICAS: usize = 16;
 
 const LONGEST_BLOCK: usize = 4096;
@@ -21,7 +23,7 @@ pub enum Verdict {
 fn is_invalid(blocks_len: usize, replicas: usize, block_len: usize, output_len: usize) -> bool
     ensures { λ r. ⌜ r ≡ invalid «blocks_len» replicas «block_len» «output_len» ⌝ }
 {
-    if replicas < 3 {
+    if replicas < FEWEST_REPLICAS {
         return true;
     }
     if MOST_REPLICAS < replicas {
@@ -41,10 +43,11 @@ fn is_invalid(blocks_len: usize, replicas: usize, block_len: usize, output_len: 
 
 // Replicas lie one after another in `blocks`, a block each. The winning block goes to the front of `output`.
 pub fn vote(blocks: &[u8], replicas: usize, block_len: usize, output: &mut [u8]) -> Verdict
-    ensures numbers { λ r. ⌜ tallyOf r ≡ tally (decide (now (blocks .entry)) replicas «block_len» (length (now (output .entry)))) (tallyOf r .replica) ⌝ }
+    ensures { λ r.
+        let d = decide (now (blocks .entry)) replicas «block_len» (length (now (output .entry))) in
+        ⌜ (tallyOf r ≡ tally d (tallyOf r .replica)) × (now (output .exit) ≡ outputAfter d (now (output .entry))) ⌝ }
     // Which of the winners is named is open: the rules let it be any one.
-    ensures named { λ r. ⌜ NamesWinner (tallyOf r) ⌝ }
-    ensures written { λ _. ⌜ now (output .exit) ≡ outputAfter (decide (now (blocks .entry)) replicas «block_len» (length (now (output .entry)))) (now (output .entry)) ⌝ }
+    ensures { λ r. ⌜ NamesWinner (tallyOf r) ⌝ }
 {
     if is_invalid(blocks.len(), replicas, block_len, output.len()) {
         return Verdict::Refused(Refusal::InvalidVote);

@@ -1,2 +1,3 @@
 pub mod Writing
-pub mod Clip
+pub mod Fitting
+pub mod Parts

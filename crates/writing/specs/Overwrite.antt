@@ -6,7 +6,3 @@ use lib.ListN.{length, take, drop}
 -- the bytes xs with ys in place of those from a on
 abbrev pub overwrite : List ℕ → ℕ → List ℕ → List ℕ
 overwrite xs a ys = take a xs ++ (ys ++ drop (length ys) (drop a xs))
-
--- a target with a content at its front, as far as that fits
-abbrev pub clip : List ℕ → List ℕ → List ℕ
-clip content target = take (length target) content ++ drop (length content) target

@@ -1,8 +1,8 @@
 // Writing over bytes: the definition and its laws, for the contracts and proofs of the crates above, and the one copy from lent bytes to lent bytes.
 ghost use mathlib.Core.Path.{_≡_};
-ghost use Prim.Native.Nat.{min, _≤_};
-ghost use lib.ListN.{length};
-ghost use Rattle.writing.specs.Overwrite.{overwrite, clip};
+ghost use Prim.Native.Nat.{_≤_};
+ghost use lib.ListN.{length, take};
+ghost use Rattle.writing.specs.Overwrite.{overwrite};
 
 // The longest part that becomes one block move.
 const LONGEST: usize = 16384;
@@ -24,8 +24,9 @@ fn block_move(source: &[u8], target: &mut [u8]) -> usize
 
 // Writes the source, as far as it fits.
 pub fn write(target: &mut [u8], source: &[u8]) -> usize
-    ensures { λ r. ⌜ r ≡ min (length (now (source .entry))) (length (now (target .entry))) ⌝ }
-    ensures { λ _. ⌜ now (target .exit) ≡ clip (now (source .entry)) (now (target .entry)) ⌝ }
+    ensures { λ r.
+        let text = take (length (now (target .entry))) (now (source .entry)) in
+        ⌜ (r ≡ length text) × (now (target .exit) ≡ overwrite (now (target .entry)) 0 text) ⌝ }
 {
     let room = target.len();
     if source.len() <= room {

@@ -132,10 +132,11 @@ loop-less c = omega arith
 
 loop-again : tie.Need-loop-again Inv-loop μ-loop
 loop-again c =
-    let r = c .before .before .before .before .before .before .before .before .before .before .before .before .before .before .before .before .before .before in
-    let l = r .before .before .before .before .loop in
     let s = c .before .before .before .before .before .before .before .before .before in
-    let end = l .kept + c .before .before .before .before .before .before .before .before .before .before .before .before .before .before .count .result in
+    let counted = s .before .before .before .before .before in
+    let r = counted .before .before .before .before in
+    let l = r .before .before .before .before .loop in
+    let end = l .kept + counted .count .result in
     let read = same-len-mid (l .kept) (16384 - l .kept) (l .input) (r .before .read .last .1 .0) (r .input2 .given) in
     let served = same-len-mid 0 (end - 0) _ (s .serve .last .1 .1 .0) (c .before .before .before .before .before .before .input5 .given) in
     omega (arith, read, served)

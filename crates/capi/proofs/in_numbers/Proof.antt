@@ -1,3 +1,4 @@
+-- `capi::in_numbers` meets its contract.
 use borrow.Author.Needs.{needs}
 use Rattle.capi.proofs.in_numbers.Statement.{statement}
 use Rattle.capi.proofs.in_numbers.Tie as tie

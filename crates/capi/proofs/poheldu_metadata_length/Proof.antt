@@ -1,3 +1,4 @@
+-- `capi::poheldu_metadata_length` meets its contract: the plan is that of the heap's length.
 use borrow.Author.Needs.{needs}
 use borrow.Author.Tests.{eq-eqb, ne-eqb}
 use Rattle.geometry.specs.Layout.{regionOf}

@@ -1,3 +1,4 @@
+-- `capi::poheldu_open` meets its contract.
 use borrow.Author.Needs.{needs}
 use mathlib.Core.Path.{_∙_}
 use Rattle.capi.proofs.poheldu_open.Statement.{statement}

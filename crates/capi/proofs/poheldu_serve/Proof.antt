@@ -1,3 +1,4 @@
+-- `capi::poheldu_serve` meets its contract.
 use borrow.Author.Needs.{needs}
 use mathlib.Core.Path.{_∙_}
 use Rattle.capi.proofs.poheldu_serve.Statement.{statement}
@@ -16,7 +17,9 @@ same-length-2 : tie.Need-same-length-2
 same-length-2 c = search needs
 
 returns : tie.Need-returns
-returns c = (c .in-numbers .ensures ∙ c .before .before .before .before .before .serve .ensures .0, c .before .before .before .before .before .serve .ensures .1)
+returns c =
+    let served = c .before .before .before .before .before .serve .ensures in
+    (c .in-numbers .ensures ∙ served .0, served .1, served .2)
 
 pub poheldu-serve-spec : {M : Type 1} → statement M
 poheldu-serve-spec =

@@ -24,7 +24,7 @@ returns : tie.Need-returns
 returns c =
     let v = c .before .before .before .before .before .vote .ensures in
     let agreed = c .before .mask .given .1 in
-    (rw agreed at (v .0), (rw agreed at (v .1 .0), v .1 .1))
+    ((rw agreed at (v .0 .0), v .0 .1), rw agreed at (v .1))
 
 same-length-2 : tie.Need-same-length-2
 same-length-2 c = search needs
@@ -34,7 +34,7 @@ returns-2 c =
     let v = c .before .before .before .before .before .before .vote .ensures in
     let refusal = c .before .before .refusal .given in
     let number = c .number .ensures in
-    (rw number (rw (refusal .1) at (v .0)), (λ z. absurd (refusal-number (refusal .0 .0) (sym number ∙ z)), v .1 .1))
+    ((rw number (rw (refusal .1) at (v .0 .0)), v .0 .1), λ z. absurd (refusal-number (refusal .0 .0) (sym number ∙ z)))
 
 pub poheldu-vote-spec : {M : Type 1} → statement M
 poheldu-vote-spec =

@@ -1,3 +1,4 @@
+-- `main` is safe and ends. The loop's invariant: the arrays keep their lengths.
 use Prim.Native.Nat.{ℕ, _-_, _^_}
 use borrow.Rule.Slice.PartMut.{same-len-mid}
 use native.Mathlib.Omega.{arith}
@@ -130,23 +131,26 @@ write-all-requires-4 : tie.Need-write-all-requires-4 Inv-loop μ-loop
 write-all-requires-4 c κs = tt
 
 add-cases : tie.Need-add-cases Inv-loop μ-loop
-add-cases c = omega (arith, c .before .before .before .before .before .before .before .before .before .before .before .before .before)
+add-cases c = let written = c .before .before .before .before .before .before in omega (arith, written .before .before .before .before .before .before .before)
 
 loop-less : tie.Need-loop-less Inv-loop μ-loop
-loop-less c = omega (arith, c .before .before .before .before .before .before .before .before .before .before .before .before .before)
+loop-less c = let written = c .before .before .before .before .before .before in omega (arith, written .before .before .before .before .before .before .before)
 
 loop-again : tie.Need-loop-again Inv-loop μ-loop
 loop-again c =
-    let back = c .before .before .before .before .before .before .before .before .before .before .before .before .before in
+    let written = c .before .before .before .before .before .before in
+    let back = written .before .before .before .before .before .before .before in
     let ran = back .before .before .before .run in
-    let read = back .before .before .before .before .before .before .before .before .before .before .read-full2 in
-    let case = back .before .before .before .before .before .before .before .before .before .before .before .before .case-of .result in
-    let l = back .before .before .before .before .before .before .before .before .before .before .before .before .before .before .before .before .before .before .before .loop in
+    let filled = back .before .before .before .before .before .before .before .before .before in
+    let cased = filled .before .before .before in
+    let read = filled .before .read-full2 in
+    let case = cased .case-of .result in
+    let l = cased .before .before .before .before .before .before .before .loop in
     record {
       heap-length = same-len-mid 0 (case .heap - 0) (l .heap) (ran .last .0) (back .before .before .heap2 .given) ∙ l .inv .heap-length;
       metadata-length = same-len-mid 0 (case .metadata - 0) (l .metadata) (ran .last .1 .0) (back .before .metadata2 .given) ∙ l .inv .metadata-length;
       header-length = omega (arith, back);
-      requests-length = same-len-mid 0 (case .requests - 0) (l .requests) (read .last .1 .0) (back .before .before .before .before .before .before .before .before .before .requests2 .given) ∙ l .inv .requests-length;
+      requests-length = same-len-mid 0 (case .requests - 0) (l .requests) (read .last .1 .0) (filled .requests2 .given) ∙ l .inv .requests-length;
       out-length = omega (arith, back);
     }
 

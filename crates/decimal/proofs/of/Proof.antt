@@ -1,3 +1,4 @@
+-- `decimal::of` meets its contract. The loop's invariant: the digits behind `start` and the number that is left spell the number.
 use native.Mathlib.Omega.{arith}
 use Rattle.decimal.proofs.Spelling.{Spelled, spelled-none, spelled-more, spelled-room, spelled-all}
 use Rattle.decimal.proofs.of.Statement.{statement}

@@ -1,3 +1,4 @@
+-- `fill::write_string` meets its contract: the part through the zero byte that was found, or the source.
 use borrow.Author.Needs.{needs}
 use Rattle.fill.proofs.Contents.{string-part, string-whole}
 use Rattle.fill.proofs.write_string.Statement.{statement}
@@ -28,7 +29,10 @@ same-length : tie.Need-same-length
 same-length c = search needs
 
 returns : tie.Need-returns
-returns c = rw (← string-part _ _ (c .before .before .before .before .before .before .find-zero .ensures) (c .before .before .before .before .before .if1 .taken)) (c .before .before .write .ensures)
+returns c =
+    let found = c .before .before .before .before .before .before in
+    let a = found .before .before .before .before .args in
+    rw (← string-part _ (a .target .now) _ (found .find-zero .ensures) (c .before .before .before .before .before .if1 .taken)) (c .before .before .write .ensures)
 
 write-requires-2 : tie.Need-write-requires-2
 write-requires-2 c κs = search needs
@@ -38,8 +42,9 @@ same-length-2 c = search needs
 
 returns-2 : tie.Need-returns-2
 returns-2 c =
-    let a = c .before .before .before .before .before .before .before .before .before .args in
-    string-whole (a .source .now) _ (c .before .before .before .before .before .find-zero .ensures) (a .target .now) (c .before .before .before .before .before .before .least .ensures) (c .before .before .before .before .if1 .left) (c .before .before .write2 .ensures)
+    let found = c .before .before .before .before .before in
+    let a = found .before .before .before .before .args in
+    rw (← string-whole _ (a .target .now) _ (found .find-zero .ensures) (found .before .least .ensures) (c .before .before .before .before .if1 .left)) (c .before .before .write2 .ensures)
 
 pub write-string-spec : {M : Type 1} → statement M
 write-string-spec =

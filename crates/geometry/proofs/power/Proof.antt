@@ -1,3 +1,4 @@
+-- `power` meets its contract: a shift of 1 is a power of two.
 use borrow.Author.Needs.{needs}
 use native.Mathlib.Omega.{arith}
 use lib.Dec.{lit<}

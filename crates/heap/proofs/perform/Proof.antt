@@ -1,3 +1,4 @@
+-- `heap::perform` meets its contract, by the request: what an operation is not lent, it leaves.
 use borrow.Author.Needs.{needs}
 use Rattle.heap.proofs.Performing.{allocate-heap, free-heap, remaining-heap, remaining-metadata, copy-metadata}
 use Rattle.heap.proofs.perform.Statement.{statement}
@@ -31,19 +32,23 @@ same-length : tie.Need-same-length
 same-length c = search needs
 
 returns : tie.Need-returns
-returns c = rw (c .before .before .before .before .before .request .given .1) (c .before .before .allocate .ensures .0, (c .before .before .allocate .ensures .1, allocate-heap _ _ _ _))
+returns c =
+    let done = c .before .before .allocate .ensures in
+    rw (c .before .before .before .before .before .request .given .1) (done .0, done .1, allocate-heap _ _ _ _)
 
 same-length-2 : tie.Need-same-length-2
 same-length-2 c = search needs
 
 returns-2 : tie.Need-returns-2
-returns-2 c = rw (c .before .before .before .before .before .request2 .given .1) (c .before .before .free .ensures .0, (c .before .before .free .ensures .1, free-heap _ _ _ _))
+returns-2 c =
+    let done = c .before .before .free .ensures in
+    rw (c .before .before .before .before .before .request2 .given .1) (done .0, done .1, free-heap _ _ _ _)
 
 same-length-3 : tie.Need-same-length-3
 same-length-3 c = search needs
 
 returns-3 : tie.Need-returns-3
-returns-3 c = rw (c .before .before .before .request3 .given .1) (c .remaining .ensures, (remaining-metadata _ _ _, remaining-heap _ _ _ _))
+returns-3 c = rw (c .before .before .before .request3 .given .1) (c .remaining .ensures, remaining-metadata _ _ _, remaining-heap _ _ _ _)
 
 same-length-4 : tie.Need-same-length-4
 same-length-4 c = search needs
@@ -52,7 +57,9 @@ same-length-5 : tie.Need-same-length-5
 same-length-5 c = search needs
 
 returns-4 : tie.Need-returns-4
-returns-4 c = rw (c .before .before .before .before .before .before .request4 .given .1) (c .before .before .copy .ensures .0, (copy-metadata _ _ _ _, c .before .before .copy .ensures .1))
+returns-4 c =
+    let done = c .before .before .copy .ensures in
+    rw (c .before .before .before .before .before .before .request4 .given .1) (done .0, copy-metadata _ _ _ _ _, done .1)
 
 pub perform-spec : {M : Type 1} → statement M
 perform-spec =

@@ -1,3 +1,4 @@
+-- `step_half` meets its contract: with a multiplier of 16 bits nothing wraps.
 use borrow.Author.Needs.{needs}
 use native.Mathlib.Omega.{arith}
 use Rattle.mwc.proofs.Halves.{product}

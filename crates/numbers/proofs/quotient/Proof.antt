@@ -1,3 +1,4 @@
+-- `quotient` meets its contract, for a divisor of 0 too.
 use borrow.Author.Needs.{needs}
 use mathlib.Core.Path.{refl, sym}
 use native.Mathlib.Nat.{div-zero, div-le-self}

@@ -1,3 +1,4 @@
+-- `remainder` meets its contract, for a divisor of 0 too.
 use borrow.Author.Needs.{needs}
 use mathlib.Core.Path.{sym}
 use native.Mathlib.Nat.{mod-zero}

@@ -1,3 +1,4 @@
+-- `accepted` meets its contract: a law of `Replayed` for each return.
 use borrow.Author.Needs.{needs}
 use Prim.Native.Nat.{_+_, _/_, _%_}
 use native.Mathlib.Omega.{arith}

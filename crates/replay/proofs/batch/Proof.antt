@@ -62,12 +62,13 @@ loop-less c = omega arith
 
 loop-again : tie.Need-loop-again Inv-loop μ-loop
 loop-again c =
-    let l = c .before .before .before .before .before .before .before .before .before .before .before .before .before .loop in
-    let end = c .before .before .before .before .before .before .before .before .before .before .before .request-end in
-    let s = c .before .before .before .before .before .before .step in
+    let stepped = c .before .before .before .before .before .before in
+    let end = stepped .before .before .before .before .before .request-end in
+    let l = stepped .before .before .before .before .before .before .before .loop in
+    let s = stepped .step in
     let room : lineRoom ≤ length (take (length (l .out) - l .written) (drop (l .written) (l .out))) = simp (length-take, length-drop) (omega arith) in
     let e = rw (request-part _ (l .at) (end .result) (end .ensures), le-leb lineRoom _ room) at (s .ensures) in
-    replayed-more (l .inv) (omega arith) (end .ensures) (e .0 .0) (e .0 .2) (e .1 .0) (e .1 .1 .0) (e .1 .1 .1) (s .kept .1 .0) (s .kept .0)
+    replayed-more (l .inv) (omega arith) (end .ensures) (e .0 .0) (e .1 .1) (e .0 .1) (e .0 .2) (s .kept .1 .0) (s .kept .0)
 
 same-length : tie.Need-same-length Inv-loop μ-loop
 same-length c = c .before .loop .inv .heap-kept

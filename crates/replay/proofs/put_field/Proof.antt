@@ -1,3 +1,4 @@
+-- `put_field` writes a number and then a byte.
 use borrow.Author.Needs.{needs}
 use Prim.Native.Nat.{_+_}
 use mathlib.Core.Path.{_≡_}

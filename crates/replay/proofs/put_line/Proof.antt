@@ -1,3 +1,4 @@
+-- `put_line` writes three fields one after another.
 use borrow.Author.Needs.{needs}
 use mathlib.Core.List.{_++_}
 use lib.ListN.{length-append}
@@ -21,9 +22,11 @@ same-length c = search needs
 
 returns : tie.Need-returns
 returns c =
-    let a = c .before .before .before .before .before .before .before .before .before .before .before .before .before .args in
-    let f = c .before .before .before .before .before .before .before .before .before .before .put-field in
-    let g = c .before .before .before .before .before .before .put-field2 in
+    let two = c .before .before .before .before .before .before in
+    let one = two .before .before .before .before in
+    let a = one .before .before .before .args in
+    let f = one .put-field in
+    let g = two .put-field2 in
     let h = c .before .before .put-field3 in
     let first : Wrote (a .out .now) (f .last .0) 0 (field (a .number) 32) = record { bytes = f .ensures .1; room = omega arith } in
     let second : Wrote (f .last .0) (g .last .0) (f .result) (field (a .refusal) 32) = record { bytes = g .ensures .1; room = omega arith } in
@@ -31,7 +34,7 @@ returns c =
     let rest = wrote-then second third (g .ensures .0 .0) in
     let size = length-append (field (a .number) 32) (field (a .refusal) 32 ++ field (a .value) 10) in
     let size-rest = length-append (field (a .refusal) 32) (field (a .value) 10) in
-    (omega arith, wrote-then first rest (f .ensures .0 .0) .bytes)
+    (omega arith, omega arith, wrote-then first rest (f .ensures .0 .0) .bytes)
 
 pub put-line-spec : {M : Type 1} → statement M
 put-line-spec =

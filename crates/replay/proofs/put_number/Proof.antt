@@ -1,3 +1,4 @@
+-- `put_number` writes the digits of a number.
 use borrow.Author.Needs.{needs}
 use Prim.Native.Nat.{_+_, _-_}
 use mathlib.Core.Path.{_≡_, sym}

@@ -1,3 +1,4 @@
+-- `step` serves a request and writes its line, where there is room for one.
 use borrow.Author.Needs.{needs}
 use mathlib.Core.Path.{_≡_, refl, ap, _∙_}
 use borrow.Author.Tests.{le-leb, lt-leb}
@@ -6,6 +7,7 @@ use Prim.Native.Nat.{ℕ, zero-le}
 use native.Mathlib.Omega.{arith}
 use Rattle.writing.specs.Overwrite.{overwrite}
 use Rattle.answer.specs.Reply.{Reply}
+use Rattle.rules.specs.Call.{stateOf}
 use Rattle.replay.specs.Line.{lineOf, lineRoom}
 use Rattle.replay.proofs.step.Statement.{statement}
 use Rattle.replay.proofs.step.Tie as tie
@@ -15,7 +17,7 @@ reply-path : {r : Reply} {n v : ℕ} → n ≡ r .number → v ≡ r .value → 
 reply-path p q = λ i. record { number = p i; value = q i }
 
 returns : tie.Need-returns
-returns c = rw (lt-leb lineRoom _ (c .if1 .taken)) ((refl, zero-le, zero-le), (refl, (refl, refl)))
+returns c = rw (lt-leb lineRoom _ (c .if1 .taken)) ((refl, refl, refl), (zero-le, zero-le))
 
 slice-aggregate-serve : tie.Need-slice-aggregate-serve
 slice-aggregate-serve c = search needs
@@ -43,15 +45,22 @@ same-length-3 c = search needs
 
 returns-2 : tie.Need-returns-2
 returns-2 c =
-    let a = c .before .before .before .before .before .before .before .before .before .before .before .before .before .before .before .before .before .before .before .args in
-    let served = c .before .before .before .before .before .before .before .before .before .before .serve .ensures in
+    let shown = c .before .before .before .before in
+    let served = shown .before .before .before .before .before .before in
+    let tested = served .before .before .before .before in
+    let a = tested .before .before .before .before .before .args in
+    let e = served .serve .ensures in
     let line = c .before .before .put-line .ensures in
-    let number = c .before .before .before .before .number .ensures ∙ ap (λ (r : Reply). r .number) (served .0) in
-    let value = c .before .before .before .value .ensures ∙ ap (λ (r : Reply). r .value) (served .0) in
-    let shown = reply-path number value in
-    rw (le-leb lineRoom _ (c .before .before .before .before .before .before .before .before .before .before .before .before .before .before .if1 .left)) (
-      (line .0 .0 ∙ ap (λ (r : Reply). length (lineOf (a .number) r)) shown, omega arith, omega arith),
-      (line .1 ∙ ap (λ (r : Reply). overwrite (a .out .now) 0 (lineOf (a .number) r)) shown, served .1),
+    let number = shown .number .ensures ∙ ap (λ (r : Reply). r .number) (e .0) in
+    let value = c .before .before .before .value .ensures ∙ ap (λ (r : Reply). r .value) (e .0) in
+    let same = reply-path number value in
+    rw (le-leb lineRoom _ (tested .if1 .left)) (
+      (
+        line .0 ∙ ap (λ (r : Reply). length (lineOf (a .number) r)) same,
+        line .2 ∙ ap (λ (r : Reply). overwrite (a .out .now) 0 (lineOf (a .number) r)) same,
+        λ i. stateOf (e .2 i) (e .1 i),
+      ),
+      (omega arith, omega arith),
     )
 
 pub step-spec : {M : Type 1} → statement M

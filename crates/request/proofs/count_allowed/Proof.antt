@@ -1,3 +1,4 @@
+-- `count_allowed` meets its contract.
 use borrow.Author.Tests.{eq-eqb, ne-eqb}
 use Rattle.request.proofs.count_allowed.Statement.{statement}
 use Rattle.request.proofs.count_allowed.Tie as tie

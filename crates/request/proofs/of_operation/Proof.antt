@@ -1,3 +1,4 @@
+-- `of_operation` meets its contract, by the operation.
 use Prim.Native.Nat.{_≤_}
 use mathlib.Core.Path.{sym}
 use mathlib.Core.List.{map}

@@ -1,3 +1,4 @@
+-- `is_invalid` meets its contract: a test for each way to be invalid.
 use Prim.Native.Nat.{_*_, _≤_}
 use native.Mathlib.Nat.{mul-le-mul}
 use native.Mathlib.Omega.{arith}

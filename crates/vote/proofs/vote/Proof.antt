@@ -1,3 +1,4 @@
+-- `vote::vote` meets its contract: a refusal for numbers that are not allowed or a winner with one vote, else the winner's block.
 use native.Mathlib.Omega.{arith}
 use mathlib.Core.Path.{refl, sym, _∙_}
 use lib.ListN.{length}
@@ -20,7 +21,7 @@ returns c =
     (a .block-len)
     (length (a .output .now))
     (sym (c .before .is-invalid .ensures) ∙ c .if1 .taken))
-    (refl, (λ z. omega arith, refl))
+    ((refl, refl), λ z. omega arith)
 
 -- the numbers are allowed
 allowed-here : (c : tie.Else1)
@@ -42,7 +43,7 @@ winner-requires : tie.Need-winner-requires
 winner-requires c κs = let n = allowed-here (c .before) in (n .some, n .few)
 
 returns-2 : tie.Need-returns-2
-returns-2 c = rw (found-lost (found-here (c .before .before)) (c .if2 .taken)) (refl, (λ z. omega arith, refl))
+returns-2 c = rw (found-lost (found-here (c .before .before)) (c .if2 .taken)) ((refl, refl), λ z. omega arith)
 
 mul-start : tie.Need-mul-start
 mul-start c = omega (arith, found-block (found-here (c .before .before .before)))
@@ -73,8 +74,8 @@ returns-3 c =
     let d = c .before .before .before .before .before .before .before in
     let e = found-here (d .before .before) in
     let won = found-won e (d .if2 .left) in
-    let output = c .before .before .before .before .before .before .before .before .before .before .before .before .before .before .before .args .output .now in
-    rw (won .0, won .1, won .2) (refl, (λ z. found-named e, c .before .before .before .write .ensures .1 ∙ found-put e output refl))
+    let output = d .before .before .before .before .before .before .before .before .args .output .now in
+    rw (won .0, won .1, won .2) ((refl, c .before .before .before .write .ensures .1 ∙ found-put e output refl), λ z. found-named e)
 
 pub vote-spec : {M : Type 1} → statement M
 vote-spec =

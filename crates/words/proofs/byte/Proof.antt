@@ -1,3 +1,4 @@
+-- `byte` meets its contract: past the end a byte is 0.
 use borrow.Author.Needs.{needs}
 use mathlib.Core.Path.{refl, sym}
 use native.Mathlib.Omega.{arith}

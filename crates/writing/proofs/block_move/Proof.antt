@@ -1,7 +1,7 @@
 -- `writing::block_move` meets its contract, at once or by way of the block.
 use borrow.Author.Needs.{needs}
 use lib.ListN.{replicate}
-use Rattle.writing.proofs.Clip.{moved, moved-through}
+use Rattle.writing.proofs.Fitting.{moved, moved-through}
 use Rattle.writing.proofs.block_move.Statement.{statement}
 use Rattle.writing.proofs.block_move.Tie as tie
 
@@ -39,8 +39,9 @@ same-length-2 c = search needs
 
 returns-2 : tie.Need-returns-2
 returns-2 c =
-    let a = c .before .before .before .before .before .before .before .before .before .before .before .before .args in
-    let copied = c .before .before .before .before .before .before .before .copy2 in
+    let filled = c .before .before .before .before .before .before .before in
+    let a = filled .before .before .before .before .before .args in
+    let copied = filled .copy2 in
     moved-through (a .source .now) (a .target .now) (replicate 16384 0) (copied .ensures .1) (c .before .before .copy3 .ensures .0) (c .before .before .copy3 .ensures .1)
 
 pub block-move-spec : {M : Type 1} → statement M

@@ -1,6 +1,6 @@
 -- `writing::write` meets its contract: it copies the whole source, or its part that is as long as the target.
 use borrow.Author.Needs.{needs}
-use Rattle.writing.proofs.Clip.{clipped, clipped-part}
+use Rattle.writing.proofs.Fitting.{put-whole, put-part}
 use Rattle.writing.proofs.write.Statement.{statement}
 use Rattle.writing.proofs.write.Tie as tie
 
@@ -13,7 +13,7 @@ same-length c = search needs
 returns : tie.Need-returns
 returns c =
     let a = c .before .before .before .before .before .before .before .args in
-    clipped (a .source .now) (a .target .now) (c .before .before .before .before .if1 .taken) (c .before .before .block-move .ensures)
+    put-whole (a .source .now) (a .target .now) (c .before .before .before .before .if1 .taken) (c .before .before .block-move .ensures)
 
 sub-block-move : tie.Need-sub-block-move
 sub-block-move c = search needs
@@ -33,7 +33,7 @@ same-length-2 c = search needs
 returns-2 : tie.Need-returns-2
 returns-2 c =
     let a = c .before .before .before .before .before .before .before .before .args in
-    clipped-part (a .source .now) (a .target .now) (c .before .before .before .before .before .if1 .left) (c .before .before .block-move2 .ensures)
+    put-part (a .source .now) (a .target .now) (c .before .before .block-move2 .ensures)
 
 pub write-spec : {M : Type 1} → statement M
 write-spec =

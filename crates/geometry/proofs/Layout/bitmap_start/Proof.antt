@@ -1,3 +1,4 @@
+-- `Layout::bitmap_start` meets its contract. The loop's invariant: the sum up to a class is where its bitmap starts.
 use Prim.Native.Nat.{_+_, _-_, _*_, _≤_}
 use mathlib.Core.Path.{_≡_, refl}
 use native.Mathlib.Omega.{arith}

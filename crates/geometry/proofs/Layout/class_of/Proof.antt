@@ -1,3 +1,4 @@
+-- `Layout::class_of` meets its contract. The loop's invariant: no class before this one holds the size.
 use Prim.Native.Nat.{_-_, _≤_}
 use mathlib.Core.Path.{_≡_, refl}
 use native.Mathlib.Omega.{arith}

@@ -1,3 +1,4 @@
+-- `Layout::locate` meets its contract.
 use borrow.Author.Needs.{needs}
 use Rattle.geometry.proofs.Layout.locate.Statement.{statement}
 use Rattle.geometry.proofs.Layout.locate.Tie as tie

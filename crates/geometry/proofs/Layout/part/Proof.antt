@@ -1,3 +1,4 @@
+-- `Layout::part` meets its contract: a bitmap ends where the next one starts.
 use borrow.Author.Needs.{needs}
 use Rattle.geometry.specs.Layout.{bitmapAt}
 use Rattle.geometry.proofs.Layout.part.Statement.{statement}

@@ -1,3 +1,4 @@
+-- `Layout::slot_size` meets its contract: a shift is a product with a power of two.
 use borrow.Author.Needs.{needs}
 use mathlib.Core.Path.{sym, _∙_}
 use native.Mathlib.Omega.{arith}

@@ -1,3 +1,4 @@
+-- `Layout::slots` meets its contract.
 use borrow.Author.Needs.{needs}
 use native.Mathlib.Omega.{arith}
 use Rattle.geometry.proofs.Layout.slots.Statement.{statement}

@@ -1,9 +1,11 @@
 -- `allocate::allocate` meets its contract: a law of `Allocating` for each return.
-use mathlib.Core.Path.{_≡_, refl}
-use native.Mathlib.Omega.{arith}
 use borrow.Author.Needs.{needs}
+use mathlib.Core.Path.{_≡_, refl, _∙_}
+use native.Mathlib.Omega.{arith}
 use Rattle.geometry.specs.Layout.{slots}
-use Rattle.heap.proofs.Part.{rises, within, part-bitmap}
+use Rattle.bitmap.specs.Bitmap.{countSet}
+use Rattle.rules.specs.Metadata.{bitmapOf}
+use Rattle.heap.proofs.Part.{within, part-bits}
 use Rattle.heap.proofs.Allocating.{no-size, too-large, too-small, at-capacity, roomy}
 use Rattle.heap.proofs.allocate.allocate.Statement.{statement}
 use Rattle.heap.proofs.allocate.allocate.Tie as tie
@@ -21,51 +23,52 @@ part-requires : tie.Need-part-requires
 part-requires c κs = search needs
 
 -- the slots of the part are the class's
-slots-are : (c : tie.After-part) → c .part .result .slots ≡ slots (c .before .before .before .before .before .args .layout) (c .before .before .before .class-of .result)
+slots-are : (c : tie.After-part)
+    → let a = c .before .before .before .before .before .args in
+    c .part .result .slots ≡ slots (a .layout) (c .before .before .before .class-of .result)
 slots-are c = rw (c .part .ensures)
 
 returns-3 : tie.Need-returns-3
 returns-3 c =
-    let sized = c .before .before .before in
-    rw (too-small _ _ _ (sized .if1 .left) (sized .before .class-of .ensures) (omega arith) (slots-are (c .before)) (c .if3 .taken)) (refl, refl)
-
-sub-count : tie.Need-sub-count
-sub-count c = rises _ _ (c .before .part .ensures)
-
-part-count-start : tie.Need-part-count-start
-part-count-start c = sub-count (c .before)
-
-part-count-end : tie.Need-part-count-end
-part-count-end c = within _ _ (c .before .before .part .ensures) (c .before .before .before .before .before .before .before .pre .1)
+    let part = c .before .before in
+    let sized = part .before .before in
+    rw (too-small _ _ _ (sized .if1 .left) (sized .before .class-of .ensures) (omega arith) (slots-are part) (c .if3 .taken)) (refl, refl)
 
 count-requires : tie.Need-count-requires
-count-requires c κs = search needs
+count-requires c κs =
+    let part = c .before .before .before .before in
+    within _ _ (part .part .ensures) (part .before .before .before .before .before .pre)
+
+-- and so are its bits
+counted : (c : tie.After-count)
+    → let part = c .before .before .before .before .before in
+    let a = part .before .before .before .before .before .args in
+    c .count .result ≡ countSet (bitmapOf (a .layout) (part .before .before .before .class-of .result) (a .metadata .now)) (part .part .result .slots)
+counted c = c .count .ensures ∙ rw (part-bits _ _ (c .before .before .before .before .before .part .ensures) _)
 
 same-length : tie.Need-same-length
 same-length c = search needs
 
 returns-4 : tie.Need-returns-4
 returns-4 c =
-    let part = c .before .before .before .before .before in
+    let part = c .before .before .before .before .before .before in
     let sized = part .before .before in
-    let counted = rw (part-bitmap _ _ (part .part .ensures)) at (c .before .count .ensures) in
-    rw (at-capacity _ _ _ (sized .if1 .left) (sized .before .class-of .ensures) (omega arith) (slots-are part) (omega arith) counted (c .if4 .taken)) (refl, refl)
+    rw (at-capacity _ _ _ (sized .if1 .left) (sized .before .class-of .ensures) (omega arith) (slots-are part) (omega arith) (counted (c .before)) (c .if4 .taken)) (refl, refl)
 
 take-requires : tie.Need-take-requires
 take-requires c κs =
-    let part = c .before .before .before .before .before .before in
-    let p = part .before .before .before .before .before .pre in
-    (p .0, p .1, omega arith, omega (arith, slots-are part), part .part .ensures)
+    let part = c .before .before .before .before .before .before .before in
+    (part .before .before .before .before .before .pre, record { class = omega arith; some = omega (arith, slots-are part); of = part .part .ensures })
 
 same-length-2 : tie.Need-same-length-2
 same-length-2 c = search needs
 
 returns-5 : tie.Need-returns-5
 returns-5 c =
-    let part = c .before .before .before .before .before .before .before .before .before in
+    let tested = c .before .before .before .before in
+    let part = tested .before .before .before .before .before .before in
     let sized = part .before .before in
-    let counted = rw (part-bitmap _ _ (part .part .ensures)) at (c .before .before .before .before .before .count .ensures) in
-    rw (roomy _ _ _ (sized .if1 .left) (sized .before .class-of .ensures) (omega arith) (slots-are part) (omega arith) counted (c .before .before .before .before .if4 .left))
+    rw (roomy _ _ _ (sized .if1 .left) (sized .before .class-of .ensures) (omega arith) (slots-are part) (omega arith) (counted (tested .before)) (tested .if4 .left))
     (c .before .before .take .ensures)
 
 pub allocate-spec : {M : Type 1} → statement M
@@ -77,9 +80,6 @@ allocate-spec =
     returns-2
     part-requires
     returns-3
-    sub-count
-    part-count-start
-    part-count-end
     count-requires
     same-length
     returns-4

@@ -1,19 +1,21 @@
--- `heap::object::free` meets its contract: each refusal is the definition's, and the bitmap that comes back cleared is written over the old one.
+-- `object::free` meets its contract: each refusal is the definition's, and the bitmap that comes back cleared is written over the old one.
+use borrow.Author.Needs.{needs}
 use Prim.Native.Nat.{_<_}
-use mathlib.Core.Path.{_≡_, refl}
+use mathlib.Core.Path.{_≡_, refl, _∙_}
 use mathlib.Core.Bool.{not, cond, and-false}
 use native.Mathlib.Omega.{arith}
 use lib.Dec.{eqb}
+use lib.ListN.{length}
 use borrow.Author.Tests.{le-leb, lt-ltb, le-ltb, eq-eqb, ne-eqb}
-use borrow.Author.Needs.{needs}
 use mir.Facts.{fits-below}
 use Rattle.geometry.proofs.Geometry.{slot-size-le}
 use Rattle.geometry.specs.Layout.{heapLength}
 use Rattle.bitmap.specs.Bitmap.{clearSlot}
 use Rattle.answer.specs.declared.Refusal.the-variants.{NotAllocated}
+use Rattle.heap.specs.Relied.{Within}
 use Rattle.rules.specs.Outcome.{refused, freed}
 use Rattle.rules.specs.Object.{free}
-use Rattle.heap.proofs.Part.{rises, within, bitmap-back}
+use Rattle.heap.proofs.Part.{within, part-changed}
 use Rattle.heap.proofs.Live.{tested-live}
 use Rattle.heap.proofs.Freeing.{no-start, at-start}
 use Rattle.heap.proofs.object.free.Statement.{statement}
@@ -52,21 +54,18 @@ part-requires c κs = search needs
 
 returns-3 : tie.Need-returns-3
 returns-3 c =
-    let l = c .before .before .before .before in
+    let l = c .before .before .before .before .before in
     rw (no-start _ _ _ (inside (l .before)) (l .locate .ensures)
-    (rw (le-ltb _ _ (rw (c .before .part .ensures) at (c .if3 .taken))) (and-false (eqb (l .locate .result .into) 0)))) (refl, refl)
+    (rw (le-ltb _ _ (rw (c .before .before .part .ensures) at (c .if3 .taken))) (and-false (eqb (l .locate .result .into) 0)))) (refl, refl)
 
-sub-is-set : tie.Need-sub-is-set
-sub-is-set c = rises _ _ (c .before .part .ensures)
-
-part-is-set-start : tie.Need-part-is-set-start
-part-is-set-start c = sub-is-set (c .before)
-
-part-is-set-end : tie.Need-part-is-set-end
-part-is-set-end c = within _ _ (c .before .before .part .ensures) (c .before .before .before .before .before .before .before .before .before .before .pre .1)
+-- the part lies in the metadata
+fitting : (c : tie.After-part)
+    → let a = c .before .before .before .before .before .before .before .before .args in
+    Within (c .part .result) (length (a .metadata .now))
+fitting c = within _ _ (c .part .ensures) (c .before .before .before .before .before .before .before .before .pre)
 
 is-set-requires : tie.Need-is-set-requires
-is-set-requires c κs = search needs
+is-set-requires c κs = fitting (c .before .before .before)
 
 -- a slot starts at the offset, so freeing depends on whether it is live
 freeing : (c : tie.After-is-set)
@@ -76,10 +75,10 @@ freeing : (c : tie.After-is-set)
     ≡ cond (not (c .is-set .result)) (refused NotAllocated) (freed (l .locate .result .class) (l .locate .result .slot))
 freeing c =
     let part = c .before .before .before .before in
-    let l = c .before .before .before .before .before .before .before in
+    let l = part .before .before .before in
     let start : l .locate .result .into ≡ 0 = omega arith in
     at-start _ _ _ (inside (l .before)) (l .locate .ensures)
-    (rw (eq-eqb _ _ start, lt-ltb _ _ (rw (part .part .ensures) at (c .before .before .before .if3 .left))))
+    (rw (eq-eqb _ _ start, lt-ltb _ _ (rw (part .part .ensures) at (c .before .before .if3 .left))))
     (tested-live _ _ _ (l .locate .ensures) (part .part .ensures) (c .is-set .ensures))
 
 same-length : tie.Need-same-length
@@ -88,34 +87,26 @@ same-length c = search needs
 returns-4 : tie.Need-returns-4
 returns-4 c = rw (freeing (c .before), c .if4 .taken) (refl, refl)
 
-sub-clear : tie.Need-sub-clear
-sub-clear c = sub-is-set (c .before .before .before .before)
-
-part-clear-start : tie.Need-part-clear-start
-part-clear-start c = sub-is-set (c .before .before .before .before)
-
-part-clear-end : tie.Need-part-clear-end
-part-clear-end c = part-is-set-end (c .before .before .before)
-
 clear-requires : tie.Need-clear-requires
-clear-requires c κs = search needs
+clear-requires c κs = fitting (c .before .before .before .before .before .before)
 
 slot-size-requires : tie.Need-slot-size-requires
 slot-size-requires c κs = search needs
 
-cast-t27 : tie.Need-cast-t27
-cast-t27 c = rw (c .slot-size .ensures) (fits-below tt (slot-size-le _ _))
+cast-t22 : tie.Need-cast-t22
+cast-t22 c = rw (c .slot-size .ensures) (fits-below tt (slot-size-le _ _))
 
 same-length-2 : tie.Need-same-length-2
 same-length-2 c = search needs
 
 returns-5 : tie.Need-returns-5
 returns-5 c =
-    let cleared = c .before .before .before in
-    let l = c .before .before .before .before .before .before .before .before .before .before .before .before .before in
-    rw (freeing (c .before .before .before .before .before .before), c .before .before .before .before .before .if4 .left) (
+    let tested = c .before .before .before .before .before .before in
+    let part = tested .before .before .before .before in
+    let l = part .before .before .before in
+    rw (freeing tested, c .before .before .before .before .before .if4 .left) (
       rw (c .slot-size .ensures),
-      bitmap-back _ _ (c .before .before .before .before .before .before .before .before .before .before .part .ensures) _ (λ b n. clearSlot b n (l .locate .result .slot)) (l .before .before .before .before .before .pre .1) (cleared .clear .ensures) (cleared .clear .kept .0),
+      c .before .before .before .clear .ensures ∙ part-changed _ _ (part .part .ensures) _ (λ b n. clearSlot b n (l .locate .result .slot)),
     )
 
 pub free-spec : {M : Type 1} → statement M
@@ -130,17 +121,11 @@ free-spec =
     returns-2
     part-requires
     returns-3
-    sub-is-set
-    part-is-set-start
-    part-is-set-end
     is-set-requires
     same-length
     returns-4
-    sub-clear
-    part-clear-start
-    part-clear-end
     clear-requires
     slot-size-requires
-    cast-t27
+    cast-t22
     same-length-2
     returns-5)

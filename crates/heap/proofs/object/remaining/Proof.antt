@@ -1,7 +1,7 @@
--- `heap::object::remaining` meets its contract. The space fits the answer, since it is no more than a slot.
+-- `object::remaining` meets its contract. The space fits the answer, since it is no more than a slot.
+use borrow.Author.Needs.{needs}
 use native.Mathlib.Omega.{arith}
 use borrow.Author.Tests.{le-leb, lt-leb}
-use borrow.Author.Needs.{needs}
 use Rattle.geometry.specs.Layout.{heapLength}
 use Rattle.rules.specs.Object.{remaining}
 use Rattle.heap.proofs.object.remaining.Statement.{statement}

@@ -1,13 +1,13 @@
--- `heap::object::space` meets its contract: the slot is live where its bit is set in the part lent as the bitmap, and then ends within the heap.
+-- `object::space` meets its contract: the slot is live where its bit is set, and then ends within the heap.
+use borrow.Author.Needs.{needs}
 use mathlib.Core.Path.{_≡_, _∙_}
 use native.Mathlib.Omega.{arith}
 use native.Mathlib.Nat.{le-of-lt}
-use borrow.Author.Needs.{needs}
 use Rattle.geometry.specs.Layout.{locate}
 use Rattle.geometry.proofs.Slots.{into-lt}
 use Rattle.rules.specs.Object.{isLive}
 use Rattle.heap.proofs.Live.{tested-live, live-lt, space-live, space-none}
-use Rattle.heap.proofs.Part.{rises, within}
+use Rattle.heap.proofs.Part.{within}
 use Rattle.heap.proofs.object.space.Statement.{statement}
 use Rattle.heap.proofs.object.space.Tie as tie
 
@@ -17,36 +17,27 @@ locate-requires c κs = search needs
 part-requires : tie.Need-part-requires
 part-requires c κs = search needs
 
-sub-is-set : tie.Need-sub-is-set
-sub-is-set c = rises _ _ (c .part .ensures)
-
-part-is-set-start : tie.Need-part-is-set-start
-part-is-set-start c = sub-is-set c
-
-part-is-set-end : tie.Need-part-is-set-end
-part-is-set-end c = within _ _ (c .part .ensures) (c .before .before .before .pre .1)
-
 is-set-requires : tie.Need-is-set-requires
-is-set-requires c κs = search needs
+is-set-requires c κs = within _ _ (c .part .ensures) (c .before .before .before .pre .0)
 
 -- the test says whether the slot is live
 live : (c : tie.After-is-set)
-    → let a = c .before .before .before .before .before .args in
+    → let a = c .before .before .before .before .args in
     isLive (a .layout) (a .metadata .now) (locate (a .layout) (a .offset)) ≡ c .is-set .result
-live c = tested-live _ _ _ (c .before .before .before .locate .ensures) (c .before .before .part .ensures) (c .is-set .ensures)
+live c = tested-live _ _ _ (c .before .before .locate .ensures) (c .before .part .ensures) (c .is-set .ensures)
 
 slot-size-requires : tie.Need-slot-size-requires
 slot-size-requires c κs = search needs
 
 sub-result : tie.Need-sub-result
 sub-result c =
-    rw (c .slot-size .ensures, c .before .before .before .before .before .locate .ensures)
+    rw (c .slot-size .ensures, c .before .before .before .before .locate .ensures)
     (le-of-lt (into-lt _ _ (live-lt _ _ _ (live (c .before .before) ∙ c .before .if1 .taken))))
 
 returns : tie.Need-returns
 returns c =
     space-live _ _ _ (omega arith) (live (c .before .before) ∙ c .before .if1 .taken)
-    (rw (c .slot-size .ensures, c .before .before .before .before .before .locate .ensures))
+    (rw (c .slot-size .ensures, c .before .before .before .before .locate .ensures))
 
 returns-2 : tie.Need-returns-2
 returns-2 c = space-none _ _ _ (omega arith) (live (c .before) ∙ c .if1 .left)
@@ -57,9 +48,6 @@ space-spec =
     (tie.spec
     locate-requires
     part-requires
-    sub-is-set
-    part-is-set-start
-    part-is-set-end
     is-set-requires
     slot-size-requires
     sub-result

@@ -1,3 +1,4 @@
+-- `Generator::advance` meets its contract.
 use borrow.Author.Needs.{needs}
 use Rattle.mwc.proofs.Generator.advance.Statement.{statement}
 use Rattle.mwc.proofs.Generator.advance.Tie as tie

@@ -39,9 +39,10 @@ same-length c = search needs
 
 returns : tie.Need-returns
 returns c =
-    let first = c .before .before .before .before .before .before .before .copy in
+    let copied = c .before .before .before .before .before .before .before in
+    let first = copied .copy in
     let second = rw (sub-zero (first .result)) at (c .before .before .copy2 .ensures) in
-    let a = c .before .before .before .before .before .before .before .before .before .before .before .before .args in
+    let a = copied .before .before .before .before .before .args in
     let all = tail-part (a .input .now) (a .from) in
     let found = copied-found all _ (first .ensures .1) (first .ensures .0) in
     (second .0 ∙ ap length found, copied-front found _ (second .1))

@@ -39,8 +39,9 @@ same-length-4 c = search needs
 
 returns : tie.Need-returns
 returns c =
-    let kept = c .before .before .keep in
-    let served = c .before .before .before .before .before .before .before .before .before .before in
+    let moving = c .before .before in
+    let kept = moving .keep in
+    let served = moving .before .before .before .before .before .before .before .before in
     let end = served .before .before .before .before .before .before .ready-len in
     let lines = rw (sub-zero (end .result), end .ensures .0) at (served .batch .ensures) in
     let moved = rw (end .ensures .0) at (kept .ensures) in

@@ -1,3 +1,4 @@
+-- `agreements` meets its contract. The loop's invariant: the rows before this one are those of the table.
 use Prim.Native.Nat.{_-_, _<_}
 use native.Mathlib.Omega.{arith}
 use mathlib.Core.Bool.{false}

@@ -1,3 +1,4 @@
+-- `folded` meets its contract. The loop's invariant: no difference so far exactly when the bytes passed are the same.
 use Prim.Native.Nat.{_-_}
 use native.Mathlib.Omega.{arith}
 use Rattle.vote.proofs.Blocks.{Compared, compared-none, compared-more, compared-all}

@@ -1,3 +1,4 @@
+-- `groups` meets its contract. The loop's invariant: the replicas before this one are in their groups.
 use Prim.Native.Nat.{_-_}
 use native.Mathlib.Omega.{arith}
 use mathlib.Core.Path.{_≡_, _∙_}

@@ -1,3 +1,4 @@
+-- `instead` meets its contract.
 use Rattle.vote.proofs.Lowest.{instead-taken, instead-left}
 use Rattle.vote.proofs.compare.instead.Statement.{statement}
 use Rattle.vote.proofs.compare.instead.Tie as tie

@@ -1,3 +1,4 @@
+-- `lowest_alike` meets its contract. The loop's invariant: no replica before this one has the same rest.
 use Prim.Native.Nat.{_+_, _-_, _≤_}
 use native.Mathlib.Omega.{arith}
 use lib.ListN.{length}

@@ -1,3 +1,4 @@
+-- `matching` meets its contract. The loop's invariant: the strides passed are the same at all four places.
 use Prim.Native.Nat.{_+_, _-_, _≤_}
 use native.Mathlib.Omega.{arith}
 use mathlib.Core.Path.{_∙_}

@@ -1,3 +1,4 @@
+-- `replaced` meets its contract. The loop's invariant: the groups passed are replaced.
 use Prim.Native.Nat.{_-_}
 use native.Mathlib.Omega.{arith}
 use lib.ListN.{getD}

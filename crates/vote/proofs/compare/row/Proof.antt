@@ -1,3 +1,4 @@
+-- `row` meets its contract. The loop's invariant: the entries before this one are those of the row.
 use Prim.Native.Nat.{_-_}
 use native.Mathlib.Omega.{arith}
 use mathlib.Core.Path.{refl}

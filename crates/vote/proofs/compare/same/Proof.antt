@@ -1,3 +1,4 @@
+-- `same` meets its contract, by the length: at once, or by strides.
 use Rattle.vote.proofs.Blocks.{alike-thrice}
 use borrow.Author.Needs.{needs}
 use Rattle.vote.proofs.compare.same.Statement.{statement}

@@ -1,3 +1,4 @@
+-- `shared` meets its contract. The loop's invariant: the strides that the replicas passed share.
 use Prim.Native.Nat.{_+_, _*_, _-_, _≤_, _<_}
 use native.Mathlib.Omega.{arith}
 use lib.ListN.{length}

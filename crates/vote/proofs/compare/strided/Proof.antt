@@ -1,3 +1,4 @@
+-- `strided` meets its contract: strides, and a last one that ends with the bytes and may overlap the one before.
 use native.Mathlib.Omega.{arith}
 use Rattle.vote.proofs.Strides.{strides-fit, strided-less, strided-last}
 use borrow.Author.Needs.{needs}

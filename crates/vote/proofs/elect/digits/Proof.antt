@@ -1,3 +1,4 @@
+-- `digits` meets its contract. The loop's invariant: the digits from `i` on are summed up.
 use native.Mathlib.Omega.{arith}
 use Rattle.vote.proofs.Winner.{Summed, summed-none, summed-fits, summed-more, summed-all}
 use Rattle.vote.proofs.elect.digits.Statement.{statement}

@@ -1,3 +1,4 @@
+-- `winner` meets its contract. The loop's invariant: the leader of the replicas passed, with its votes.
 use Prim.Native.Nat.{_-_, _<_}
 use native.Mathlib.Omega.{arith}
 use mathlib.Core.Logic.{⊎-elim}

@@ -1,0 +1,35 @@
+-- Parts read back after one is written over: the part written, and those before and after it.
+use Prim.Native.Nat.{ℕ, _+_, _-_, _≤_}
+use mathlib.Core.Path.{_≡_, sym, ap, _∙_}
+use mathlib.Core.List.{List, _++_}
+use native.Mathlib.Omega.{arith}
+use lib.ListN.{length, take, drop, length-drop, take-append-drop}
+use lib.Seq.{length-take-le, take-at, drop-at, take-append-le, drop-append-le, drop-append-seam, drop-drop}
+use Rattle.writing.specs.Overwrite.{overwrite}
+
+module _ (xs : List ℕ) (a : ℕ) (ys : List ℕ) (h : a ≤ length xs) where
+  -- what lies from the part written on
+  drop-here : drop a (overwrite xs a ys) ≡ ys ++ drop (length ys) (drop a xs)
+  drop-here = drop-at (take a xs) _ a (length-take-le a xs h)
+
+  -- the part written is read back
+  pub part-here : (n : ℕ) → length ys ≡ n → take n (drop a (overwrite xs a ys)) ≡ ys
+  part-here n e = rw drop-here (take-at ys _ n e)
+
+  -- a part before it is as it was, and so is what lies after it
+  pub part-before : (p n : ℕ) → p + n ≤ a → take n (drop p (overwrite xs a ys)) ≡ take n (drop p xs)
+  part-before p n l =
+      front (ys ++ drop (length ys) (drop a xs))
+      ∙ sym (front (drop a xs))
+      ∙ ap (λ (zs : List ℕ). take n (drop p zs)) (take-append-drop a xs)
+    where
+      front : (zs : List ℕ) → take n (drop p (take a xs ++ zs)) ≡ take n (drop p (take a xs))
+      front zs =
+          let size : length (take a xs) ≡ a = length-take-le a xs h in
+          rw (drop-append-le p (take a xs) zs (omega arith))
+          (take-append-le n (drop p (take a xs)) zs (omega (arith, length-drop p (take a xs))))
+
+  pub part-after : (p : ℕ) → a + length ys ≤ p → drop p (overwrite xs a ys) ≡ drop p xs
+  part-after p l =
+      let e : a + (length ys + (p - (a + length ys))) ≡ p = omega arith in
+      rw (← e) (simp (← drop-drop, drop-here, drop-append-seam))
