@@ -1,41 +1,22 @@
 // Turns lines of text from standard input into requests on standard output, and names each bad line on standard error.
-use arguments::Choice;
 use libc::STDERR_FILENO;
-use libc::STDIN_FILENO;
-use libc::STDOUT_FILENO;
+use program::DONE;
+use program::FAILED;
 ghost use mathlib.Core.Path.{_≡_};
 ghost use mathlib.Core.Logic.{_⊎_};
 ghost use Prim.Native.Nat.{_≤_};
 ghost use Rattle.assemble.specs.Status.{statusAfter};
 
-// Where the launcher reads the status (programs/launch.c).
-const STATUS_FILENO: i32 = 3;
-
-const DONE: u8 = 0;
-
 const BAD_LINES: u8 = 1;
-
-const FAILED: u8 = 2;
 
 // How many bytes of the input are held at a time. Each has room for a message, and the prover stops at arrays of more than 256 KiB.
 const INPUT: usize = 2048;
-
-// Writes to standard output, and answers the status: which it is, the system decides.
-fn print(text: &[u8]) -> u8
-    ensures { λ r. ⌜ (r ≡ 0) ⊎ (r ≡ 2) ⌝ }
-{
-    if io::write_all(STDOUT_FILENO, text) {
-        return DONE;
-    }
-    os::fail(b"assemble: standard output");
-    FAILED
-}
 
 // Writes requests and messages, and answers the status after them, or that an output cannot be written.
 fn answer(status: u8, requests: &[u8], messages: &[u8]) -> u8
     ensures { λ r. ⌜ (r ≡ 2) ⊎ (r ≡ statusAfter status (now (messages .entry))) ⌝ }
 {
-    if print(requests) != DONE {
+    if !program::print(requests, b"assemble: standard output") {
         return FAILED;
     }
     if messages.len() == 0 {
@@ -45,23 +26,6 @@ fn answer(status: u8, requests: &[u8], messages: &[u8]) -> u8
         return BAD_LINES;
     }
     FAILED
-}
-
-fn help() -> u8
-    ensures { λ r. ⌜ (r ≡ 0) ⊎ (r ≡ 2) ⌝ }
-{
-    print(
-        b"usage: assemble < LINES > REQUESTS\n\
-        \n\
-        Turns lines of text into requests of 16 bytes, as benchrun reads them.\n\
-        \n\
-        Input: lines of at most 255 bytes that end in LF or CR LF. A line has words with spaces or tabs around them:\n\
-        place SIZE, free OFFSET, measure OFFSET, copy OFFSET, text OFFSET or counted OFFSET COUNT, in decimal from 0\n\
-        to 4294967295. What comes after # is a comment; a line may be empty.\n\
-        Output: a request for each line that asks for one. Standard error: a message for each bad line.\n\
-        Exit status: 0 where all lines are good; 1 where a line is bad, and the good ones are written; 2 where an\n\
-        argument is unknown, the input cannot be read or an output cannot be written.\n",
-    )
 }
 
 // Reads standard input to its end, and answers the status: which it is, the system decides.
@@ -76,20 +40,18 @@ fn assemble_input() -> u8
     let mut status = DONE;
     // A proved loop ends: this one ends with the input, or after more reads than any input takes.
     for _ in 0..u64::MAX {
-        let got = libc::read(STDIN_FILENO, &mut input[kept..]);
-        if got < 0 {
-            os::fail(b"assemble: standard input");
+        let got = program::read(&mut input[kept..], b"assemble: standard input");
+        if got.failed {
             return FAILED;
         }
-        let count = io::count(got, &input[kept..]);
-        let turn = assembly::assemble(&mut input, kept, count, number, &mut out, &mut errors);
+        let turn = assembly::assemble(&mut input, kept, got.count, number, &mut out, &mut errors);
         let requests = turn.requests;
         let messages = turn.messages;
         status = answer(status, &out[0..requests], &errors[0..messages]);
         if status == FAILED {
             return status;
         }
-        if got == 0 {
+        if got.count == 0 {
             return status;
         }
         kept = turn.kept;
@@ -99,32 +61,21 @@ fn assemble_input() -> u8
 }
 
 fn main() {
-    let mut first = [0u8; 16];
-    let mut second = [0u8; 16];
-    let first_len = os::arg(1, &mut first);
-    let second_len = os::arg(2, &mut second);
-    let asked = arguments::read(
-        os::arg_count(),
-        &first[0..first_len],
-        &second[0..second_len],
+    let task = program::start(
+        b"usage: assemble < LINES > REQUESTS\n\
+        \n\
+        Turns lines of text into requests of 16 bytes, as benchrun reads them.\n\
+        \n\
+        Input: lines of at most 255 bytes that end in LF or CR LF. A line has words with spaces or tabs around them:\n\
+        place SIZE, free OFFSET, measure OFFSET, copy OFFSET, text OFFSET or counted OFFSET COUNT, in decimal from 0\n\
+        to 4294967295. What comes after # is a comment; a line may be empty.\n\
+        Output: a request for each line that asks for one. Standard error: a message for each bad line.\n\
+        Exit status: 0 where all lines are good; 1 where a line is bad, and the good ones are written; 2 where an\n\
+        argument is unknown, the input cannot be read or an output cannot be written.\n",
+        b"assemble: standard output",
+        b"assemble: unknown argument; see --help\n",
     );
-    let choice = asked.choice;
-    let mut status = FAILED;
-    match choice {
-        Choice::Run => {
-            status = assemble_input();
-        }
-        Choice::Help => {
-            status = help();
-        }
-        Choice::Unknown => {
-            io::write_all(STDERR_FILENO, b"assemble: unknown argument; see --help\n");
-        }
-    }
-    if status == DONE {
-        return;
-    }
-    if asked.launched {
-        io::print_decimal(STATUS_FILENO, status as u64);
+    if task.works {
+        program::finish(task.launched, assemble_input());
     }
 }

@@ -1,45 +1,8 @@
 // Replays requests from standard input on a heap with regions of 4,096 bytes, opened with z = 1 and w = 1, and prints a line for each.
-use arguments::Choice;
-use libc::STDERR_FILENO;
-use libc::STDIN_FILENO;
-use libc::STDOUT_FILENO;
+use program::DONE;
+use program::FAILED;
 ghost use mathlib.Core.Path.{_≡_};
 ghost use mathlib.Core.Logic.{_⊎_};
-
-// Where the launcher reads the status (programs/launch.c).
-const STATUS_FILENO: i32 = 3;
-
-const DONE: u8 = 0;
-
-const FAILED: u8 = 2;
-
-// Writes to standard output, and answers the status: which it is, the system decides.
-fn print(text: &[u8]) -> u8
-    ensures { λ r. ⌜ (r ≡ 0) ⊎ (r ≡ 2) ⌝ }
-{
-    if io::write_all(STDOUT_FILENO, text) {
-        return DONE;
-    }
-    os::fail(b"benchrun: standard output");
-    FAILED
-}
-
-fn help() -> u8
-    ensures { λ r. ⌜ (r ≡ 0) ⊎ (r ≡ 2) ⌝ }
-{
-    print(
-        b"usage: benchrun < REQUESTS\n\
-        \n\
-        Serves requests on a heap of 49152 bytes that was opened with z = 1 and w = 1.\n\
-        \n\
-        Input: requests of 16 bytes, served as they come. A request is four little-endian words: the operation\n\
-        (0 allocate, 1 free, 2 remaining size, 3 copy bytes, 4 copy string, 5 copy padded), its size or offset,\n\
-        the count of operation 5 and otherwise 0, and 0. A last part under 16 bytes is a malformed request.\n\
-        Output: a line for each request: its number from 1, the number of the refusal or 0, and the value.\n\
-        Exit status: 0 where the input was served to its end; 2 where an argument is unknown, the input cannot\n\
-        be read or the output cannot be written.\n",
-    )
-}
 
 // Serves standard input to its end, and answers the status: which it is, the system decides.
 fn serve_input() -> u8
@@ -54,26 +17,24 @@ fn serve_input() -> u8
     let mut number: u64 = 1;
     // A proved loop ends: this one ends with the input, or after more reads than any input takes.
     for _ in 0..u64::MAX {
-        let got = libc::read(STDIN_FILENO, &mut input[kept..]);
-        if got < 0 {
-            os::fail(b"benchrun: standard input");
+        let got = program::read(&mut input[kept..], b"benchrun: standard input");
+        if got.failed {
             return FAILED;
         }
-        let end = kept + io::count(got, &input[kept..]);
+        let end = kept + got.count;
         let served = replay::gather::serve(
             &mut heap,
             &mut metadata,
             &mut input[0..end],
-            got == 0,
+            got.count == 0,
             number,
             &mut out,
         );
         let written = served.written;
-        let status = print(&out[0..written]);
-        if status != DONE {
-            return status;
+        if !program::print(&out[0..written], b"benchrun: standard output") {
+            return FAILED;
         }
-        if got == 0 {
+        if got.count == 0 {
             return DONE;
         }
         kept = served.kept;
@@ -83,32 +44,21 @@ fn serve_input() -> u8
 }
 
 fn main() {
-    let mut first = [0u8; 16];
-    let mut second = [0u8; 16];
-    let first_len = os::arg(1, &mut first);
-    let second_len = os::arg(2, &mut second);
-    let asked = arguments::read(
-        os::arg_count(),
-        &first[0..first_len],
-        &second[0..second_len],
+    let task = program::start(
+        b"usage: benchrun < REQUESTS\n\
+        \n\
+        Serves requests on a heap of 49152 bytes that was opened with z = 1 and w = 1.\n\
+        \n\
+        Input: requests of 16 bytes, served as they come. A request is four little-endian words: the operation\n\
+        (0 allocate, 1 free, 2 remaining size, 3 copy bytes, 4 copy string, 5 copy padded), its size or offset,\n\
+        the count of operation 5 and otherwise 0, and 0. A last part under 16 bytes is a malformed request.\n\
+        Output: a line for each request: its number from 1, the number of the refusal or 0, and the value.\n\
+        Exit status: 0 where the input was served to its end; 2 where an argument is unknown, the input cannot\n\
+        be read or the output cannot be written.\n",
+        b"benchrun: standard output",
+        b"benchrun: unknown argument; see --help\n",
     );
-    let choice = asked.choice;
-    let mut status = FAILED;
-    match choice {
-        Choice::Run => {
-            status = serve_input();
-        }
-        Choice::Help => {
-            status = help();
-        }
-        Choice::Unknown => {
-            io::write_all(STDERR_FILENO, b"benchrun: unknown argument; see --help\n");
-        }
-    }
-    if status == DONE {
-        return;
-    }
-    if asked.launched {
-        io::print_decimal(STATUS_FILENO, status as u64);
+    if task.works {
+        program::finish(task.launched, serve_input());
     }
 }

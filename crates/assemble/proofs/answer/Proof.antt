@@ -6,6 +6,9 @@ use borrow.Author.Needs.{needs}
 use Rattle.assemble.proofs.answer.Statement.{statement}
 use Rattle.assemble.proofs.answer.Tie as tie
 
+slice-aggregate-print : tie.Need-slice-aggregate-print
+slice-aggregate-print c = search needs
+
 print-requires : tie.Need-print-requires
 print-requires c κs = search needs
 
@@ -19,11 +22,19 @@ write-all-requires : tie.Need-write-all-requires
 write-all-requires c κs = search needs
 
 returns-3 : tie.Need-returns-3
-returns-3 c = inr (some-said (c .before .before .before .before .before .before .before .args .status) _ (c .before .before .if2 .left))
+returns-3 c = inr (some-said (c .before .before .before .before .before .before .before .before .args .status) _ (c .before .before .if2 .left))
 
 returns-4 : tie.Need-returns-4
 returns-4 c = inl refl
 
 pub answer-spec : {M : Type 1} → statement M
 answer-spec =
-    tie.close (tie.spec print-requires returns returns-2 write-all-requires returns-3 returns-4)
+    tie.close
+    (tie.spec
+    slice-aggregate-print
+    print-requires
+    returns
+    returns-2
+    write-all-requires
+    returns-3
+    returns-4)

@@ -22,11 +22,11 @@ record Kept (input out errors : List ℕ) (kept status turns : ℕ) : Type 0 whe
   some : turns < 2 ^ 64
 
 abbrev Inv-loop : tie.InvT-loop
-Inv-loop input₀ out₀ errors₀ kept₀ number₀ status₀ t12 counter₀ input out errors kept number status counter =
+Inv-loop input₀ out₀ errors₀ kept₀ number₀ status₀ t11 counter₀ input out errors kept number status counter =
     Kept input out errors kept status counter
 
 abbrev μ-loop : tie.MeasureT-loop
-μ-loop input₀ out₀ errors₀ kept₀ number₀ status₀ t12 counter₀ input out errors kept number status counter =
+μ-loop input₀ out₀ errors₀ kept₀ number₀ status₀ t11 counter₀ input out errors kept number status counter =
     2 ^ 64 - counter
 
 loop-holds : tie.Need-loop-holds Inv-loop μ-loop
@@ -41,39 +41,20 @@ part-input-start c = omega arith
 part-input-end : tie.Need-part-input-end Inv-loop μ-loop
 part-input-end c = omega arith
 
+slice-aggregate-read : tie.Need-slice-aggregate-read Inv-loop μ-loop
+slice-aggregate-read c = omega arith
+
 read-requires : tie.Need-read-requires Inv-loop μ-loop
 read-requires c κs = tt
-
-slice-aggregate-fail : tie.Need-slice-aggregate-fail Inv-loop μ-loop
-slice-aggregate-fail c = omega arith
-
-fail-requires : tie.Need-fail-requires Inv-loop μ-loop
-fail-requires c κs = tt
 
 returns : tie.Need-returns Inv-loop μ-loop
 returns c = omega arith
 
-sub-count : tie.Need-sub-count Inv-loop μ-loop
-sub-count c = omega arith
-
-part-count-start : tie.Need-part-count-start Inv-loop μ-loop
-part-count-start c = omega arith
-
-part-count-end : tie.Need-part-count-end Inv-loop μ-loop
-part-count-end c =
-    let r = c .before .before in
-    let l = r .before .before .before .before .loop in
-    let size = same-len-mid (l .kept) (2048 - l .kept) (l .input) (r .before .read .last .1 .0) (r .input2 .given) in
-    omega (arith, size)
-
-count-requires : tie.Need-count-requires Inv-loop μ-loop
-count-requires c κs = tt
-
 slice-aggregate-assemble : tie.Need-slice-aggregate-assemble Inv-loop μ-loop
 slice-aggregate-assemble c =
-    let r = c .before .before .before .before .before in
-    let l = r .before .before .before .before .loop in
-    let size = same-len-mid (l .kept) (2048 - l .kept) (l .input) (r .before .read .last .1 .0) (r .input2 .given) in
+    let r = c .before .before in
+    let l = r .before .before .before .before .before .loop in
+    let size = same-len-mid (l .kept) (2048 - l .kept) (l .input) (r .before .read .last .0) (r .input2 .given) in
     omega (arith, size)
 
 slice-aggregate-assemble-2 : tie.Need-slice-aggregate-assemble-2 Inv-loop μ-loop
@@ -111,9 +92,10 @@ returns-2 c = omega arith
 
 returns-3 : tie.Need-returns-3 Inv-loop μ-loop
 returns-3 c =
-    let b = c .before .before .before .before .before .before .before .before .before in
-    let l = b .before .before .before .before .before .before .before .before .before in
-    status-within (l .before .before .before .before .loop .status) _ (l .before .before .before .before .loop .inv .status-known) (c .before .before .answer .ensures)
+    let r = c .before .before .before .before .before .before .before .before in
+    let l = r .before .before .before .before .before .before .before .before in
+    let s = l .before .before .before .before .before .loop in
+    status-within (s .status) _ (s .inv .status-known) (c .before .before .before .answer .ensures)
 
 add-counter : tie.Need-add-counter Inv-loop μ-loop
 add-counter c = omega arith
@@ -123,16 +105,16 @@ loop-less c = omega arith
 
 loop-again : tie.Need-loop-again Inv-loop μ-loop
 loop-again c =
-    let t = c .before .before .before .before .before .before .before .before .before in
-    let r = t .before .before .before .before .before .before .before .before .before in
-    let l = r .before .before .before .before .loop in
-    let size = same-len-mid (l .kept) (2048 - l .kept) (l .input) (r .before .read .last .1 .0) (r .input2 .given) in
+    let t = c .before .before .before .before .before .before .before .before in
+    let r = t .before .before .before .before .before .before .before .before in
+    let l = r .before .before .before .before .before .loop in
+    let size = same-len-mid (l .kept) (2048 - l .kept) (l .input) (r .before .read .last .0) (r .input2 .given) in
     record {
       input-length = omega (arith, size, t);
       out-length = omega (arith, t);
       errors-length = omega (arith, t);
       few = omega (arith, t);
-      status-known = status-within (l .status) _ (l .inv .status-known) (c .before .before .answer .ensures);
+      status-known = status-within (l .status) _ (l .inv .status-known) (c .before .before .before .answer .ensures);
       some = omega (arith, r);
     }
 
@@ -149,14 +131,9 @@ assemble-input-spec =
     sub-read
     part-input-start
     part-input-end
+    slice-aggregate-read
     read-requires
-    slice-aggregate-fail
-    fail-requires
     returns
-    sub-count
-    part-count-start
-    part-count-end
-    count-requires
     slice-aggregate-assemble
     slice-aggregate-assemble-2
     slice-aggregate-assemble-3

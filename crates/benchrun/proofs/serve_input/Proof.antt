@@ -18,11 +18,11 @@ record Kept (heap metadata input out : List ℕ) (kept turns : ℕ) : Type 0 whe
   some : turns < 2 ^ 64
 
 abbrev Inv-loop : tie.InvT-loop
-Inv-loop heap₀ metadata₀ input₀ out₀ kept₀ number₀ t12 counter₀ heap metadata input out kept number counter =
+Inv-loop heap₀ metadata₀ input₀ out₀ kept₀ number₀ t12 t13 counter₀ heap metadata input out kept number counter =
     Kept heap metadata input out kept counter
 
 abbrev μ-loop : tie.MeasureT-loop
-μ-loop heap₀ metadata₀ input₀ out₀ kept₀ number₀ t12 counter₀ heap metadata input out kept number counter =
+μ-loop heap₀ metadata₀ input₀ out₀ kept₀ number₀ t12 t13 counter₀ heap metadata input out kept number counter =
     2 ^ 64 - counter
 
 slice-aggregate-open : tie.Need-slice-aggregate-open Inv-loop μ-loop
@@ -49,33 +49,14 @@ part-input-start c = omega arith
 part-input-end : tie.Need-part-input-end Inv-loop μ-loop
 part-input-end c = omega arith
 
+slice-aggregate-read : tie.Need-slice-aggregate-read Inv-loop μ-loop
+slice-aggregate-read c = omega arith
+
 read-requires : tie.Need-read-requires Inv-loop μ-loop
 read-requires c κs = tt
 
-slice-aggregate-fail : tie.Need-slice-aggregate-fail Inv-loop μ-loop
-slice-aggregate-fail c = omega arith
-
-fail-requires : tie.Need-fail-requires Inv-loop μ-loop
-fail-requires c κs = tt
-
 returns : tie.Need-returns Inv-loop μ-loop
 returns c = inr refl
-
-sub-count : tie.Need-sub-count Inv-loop μ-loop
-sub-count c = omega arith
-
-part-count-start : tie.Need-part-count-start Inv-loop μ-loop
-part-count-start c = omega arith
-
-part-count-end : tie.Need-part-count-end Inv-loop μ-loop
-part-count-end c =
-    let r = c .before .before in
-    let l = r .before .before .before .before .loop in
-    let size = same-len-mid (l .kept) (16384 - l .kept) (l .input) (r .before .read .last .1 .0) (r .input2 .given) in
-    omega (arith, size)
-
-count-requires : tie.Need-count-requires Inv-loop μ-loop
-count-requires c κs = tt
 
 add-end : tie.Need-add-end Inv-loop μ-loop
 add-end c = omega arith
@@ -94,11 +75,10 @@ part-input-start-2 c = omega arith
 
 part-input-end-2 : tie.Need-part-input-end-2 Inv-loop μ-loop
 part-input-end-2 c =
-    let r = c .before .before .before .before .before .before in
-    let l = r .before .before .before .before .loop in
-    let size = same-len-mid (l .kept) (16384 - l .kept) (l .input) (r .before .read .last .1 .0) (r .input2 .given) in
-    let n = rw (length-take, length-drop) at (c .before .before .count .ensures .0 .0) in
-    omega (arith, size, n)
+    let r = c .before .before .before .before in
+    let l = r .before .before .before .before .before .loop in
+    let size = same-len-mid (l .kept) (16384 - l .kept) (l .input) (r .before .read .last .0) (r .input2 .given) in
+    omega (arith, size)
 
 slice-aggregate-serve-3 : tie.Need-slice-aggregate-serve-3 Inv-loop μ-loop
 slice-aggregate-serve-3 c = omega arith
@@ -115,11 +95,14 @@ part-print-start c = omega arith
 part-print-end : tie.Need-part-print-end Inv-loop μ-loop
 part-print-end c = omega arith
 
+slice-aggregate-print : tie.Need-slice-aggregate-print Inv-loop μ-loop
+slice-aggregate-print c = omega arith
+
 print-requires : tie.Need-print-requires Inv-loop μ-loop
 print-requires c κs = tt
 
 returns-2 : tie.Need-returns-2 Inv-loop μ-loop
-returns-2 c = c .before .print .ensures
+returns-2 c = inr refl
 
 returns-3 : tie.Need-returns-3 Inv-loop μ-loop
 returns-3 c = inl refl
@@ -132,14 +115,14 @@ loop-less c = omega arith
 
 loop-again : tie.Need-loop-again Inv-loop μ-loop
 loop-again c =
-    let s = c .before .before .before .before .before .before .before .before .before in
-    let counted = s .before .before .before .before .before in
-    let r = counted .before .before .before .before in
-    let l = r .before .before .before .before .loop in
-    let end = l .kept + counted .count .result in
-    let read = same-len-mid (l .kept) (16384 - l .kept) (l .input) (r .before .read .last .1 .0) (r .input2 .given) in
-    let served = same-len-mid 0 (end - 0) _ (s .serve .last .1 .1 .0) (c .before .before .before .before .before .before .input5 .given) in
-    omega (arith, read, served)
+    let b = c .before .before .before .before .before .before .before .before in
+    let s = b .before .before .before in
+    let r = s .before .before .before .before .before .before .before .before in
+    let l = r .before .before .before .before .before .loop in
+    let end = l .kept + r .before .read .result .count in
+    let read = same-len-mid (l .kept) (16384 - l .kept) (l .input) (r .before .read .last .0) (r .input2 .given) in
+    let served = same-len-mid 0 (end - 0) _ (s .serve .last .1 .1 .0) (b .input4 .given) in
+    omega (arith, read, served, s)
 
 returns-4 : tie.Need-returns-4 Inv-loop μ-loop
 returns-4 c = inl refl
@@ -158,14 +141,9 @@ serve-input-spec =
     sub-read
     part-input-start
     part-input-end
+    slice-aggregate-read
     read-requires
-    slice-aggregate-fail
-    fail-requires
     returns
-    sub-count
-    part-count-start
-    part-count-end
-    count-requires
     add-end
     slice-aggregate-serve
     slice-aggregate-serve-2
@@ -177,6 +155,7 @@ serve-input-spec =
     sub-print
     part-print-start
     part-print-end
+    slice-aggregate-print
     print-requires
     returns-2
     returns-3

@@ -5,9 +5,9 @@ use mathlib.Core.List.{List}
 use lib.Dec.{eqb}
 use Rattle.alike.specs.Alike.{alike}
 use Rattle.alike.specs.Text.{bytes}
-use Rattle.arguments.specs.declared.Choice.{Choice}
-use Rattle.arguments.specs.declared.Choice.the-variants.{Run, Help, Unknown}
-use Rattle.arguments.specs.declared.Asked.{Asked}
+use Rattle.program.specs.declared.arguments.Choice.{Choice}
+use Rattle.program.specs.declared.arguments.Choice.the-variants.{Run, Help, Unknown}
+use Rattle.program.specs.declared.arguments.Asked.{Asked}
 
 -- n arguments, of which this is the first
 unfoldable pub choiceOf : ℕ → List ℕ → Choice

@@ -1,9 +1,9 @@
 -- `read` answers what the arguments ask for, and whether the launcher asks.
 use borrow.Author.Needs.{needs}
 use Rattle.alike.specs.Text.{bytes}
-use Rattle.arguments.proofs.Choosing.{by-launcher, by-itself}
-use Rattle.arguments.proofs.read.Statement.{statement}
-use Rattle.arguments.proofs.read.Tie as tie
+use Rattle.program.proofs.Choosing.{by-launcher, by-itself}
+use Rattle.program.proofs.arguments.read.Statement.{statement}
+use Rattle.program.proofs.arguments.read.Tie as tie
 
 slice-aggregate-same : tie.Need-slice-aggregate-same
 slice-aggregate-same c = search needs

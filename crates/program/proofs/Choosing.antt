@@ -6,10 +6,10 @@ use mathlib.Core.List.{List}
 use borrow.Author.Tests.{eq-eqb, ne-eqb}
 use Rattle.alike.specs.Alike.{alike}
 use Rattle.alike.specs.Text.{bytes}
-use Rattle.arguments.specs.Asked.{choiceOf, askedOf}
-use Rattle.arguments.specs.declared.Choice.{Choice}
-use Rattle.arguments.specs.declared.Choice.the-variants.{Run, Help, Unknown}
-use Rattle.arguments.specs.declared.Asked.{Asked}
+use Rattle.program.specs.Asked.{choiceOf, askedOf}
+use Rattle.program.specs.declared.arguments.Choice.{Choice}
+use Rattle.program.specs.declared.arguments.Choice.the-variants.{Run, Help, Unknown}
+use Rattle.program.specs.declared.arguments.Asked.{Asked}
 
 module _ (n : ℕ) (argument : List ℕ) where
   pub none-given : n ≡ 0 → Run ≡ choiceOf n argument

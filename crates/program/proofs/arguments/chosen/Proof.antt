@@ -2,9 +2,9 @@
 use borrow.Author.Needs.{needs}
 use native.Mathlib.Omega.{arith}
 use Rattle.alike.specs.Text.{bytes}
-use Rattle.arguments.proofs.Choosing.{none-given, too-many, help-asked, another-asked}
-use Rattle.arguments.proofs.chosen.Statement.{statement}
-use Rattle.arguments.proofs.chosen.Tie as tie
+use Rattle.program.proofs.Choosing.{none-given, too-many, help-asked, another-asked}
+use Rattle.program.proofs.arguments.chosen.Statement.{statement}
+use Rattle.program.proofs.arguments.chosen.Tie as tie
 
 returns : tie.Need-returns
 returns c = none-given _ _ (omega arith)
