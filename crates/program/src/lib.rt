@@ -1,6 +1,6 @@
 // What the programs share: what their arguments ask for, input and output with a message where they fail, and the status that they end with.
 //
-// What is written, no contract can say. What print and start answer, the system decides: it may be any value of its type.
+// What is written, no contract can say.
 mod arguments;
 
 use arguments::Choice;
@@ -8,9 +8,10 @@ use libc::STDERR_FILENO;
 use libc::STDIN_FILENO;
 use libc::STDOUT_FILENO;
 ghost use mathlib.Core.Path.{_≡_};
-ghost use mathlib.Core.Bool.{cond};
+ghost use mathlib.Core.Bool.{true, cond};
 ghost use Prim.Native.Nat.{_≤_};
 ghost use lib.ListN.{length};
+ghost use Rattle.program.specs.Task.{Started};
 
 pub const DONE: u8 = 0;
 
@@ -49,8 +50,14 @@ pub fn read(input: &mut [u8], place: &[u8]) -> Got
     }
 }
 
-// Writes all of a text to standard output and answers true, or says that `place` failed and answers false.
-pub fn print(text: &[u8], place: &[u8]) -> bool {
+// Writes all of a text to standard output and answers true, or says that `place` failed and answers false. Which it is, the system decides, where
+// there is something to write.
+pub fn print(text: &[u8], place: &[u8]) -> bool
+    ensures { λ r. ⌜ (length (now (text .entry)) ≡ 0 → r ≡ true) ⌝ }
+{
+    if text.len() == 0 {
+        return true;
+    }
     let written = io::write_all(STDOUT_FILENO, text);
     if !written {
         os::fail(place);
@@ -68,8 +75,10 @@ pub fn finish(launched: bool, status: u8) {
     }
 }
 
-// Reads the arguments, and does what they ask for where that is not the work.
-pub fn start(help: &[u8], place: &[u8], unknown: &[u8]) -> Task {
+// Reads the arguments, and does what they ask for where that is not the work. The answer is that of the arguments' words, whatever these are.
+pub fn start(help: &[u8], place: &[u8], unknown: &[u8]) -> Task
+    ensures { λ r. ⌜ Started r ⌝ }
+{
     let mut first = [0u8; 16];
     let mut second = [0u8; 16];
     let first_len = os::arg(1, &mut first);
@@ -81,10 +90,12 @@ pub fn start(help: &[u8], place: &[u8], unknown: &[u8]) -> Task {
     );
     let launched = asked.launched;
     let choice = asked.choice;
-    let mut works = false;
     match choice {
         Choice::Run => {
-            works = true;
+            return Task {
+                launched,
+                works: true,
+            };
         }
         Choice::Help => {
             if !print(help, place) {
@@ -96,5 +107,8 @@ pub fn start(help: &[u8], place: &[u8], unknown: &[u8]) -> Task {
             finish(launched, FAILED);
         }
     }
-    Task { launched, works }
+    Task {
+        launched,
+        works: false,
+    }
 }
