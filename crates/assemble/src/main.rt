@@ -33,7 +33,7 @@ fn assemble_input() -> u8
     ensures { λ r. ⌜ r ≤ 2 ⌝ }
 {
     let mut input = [0u8; INPUT];
-    let mut out = [0u8; INPUT * assembly::REQUEST];
+    let mut out = [0u8; INPUT * request::SIZE];
     let mut errors = [0u8; INPUT * assembly::MESSAGE];
     let mut kept: usize = 0;
     let mut number: u64 = 1;

@@ -7,7 +7,8 @@ use mathlib.Core.List.{List, [], _++_, append-assoc, append-nil}
 use lib.ListN.{length, take, drop, length-append, length-drop}
 use Rattle.bytes.specs.Bytes.{slice, indexOf}
 use Rattle.writing.specs.Overwrite.{overwrite}
-use Rattle.line.specs.Line.{readLine, requestOf, requestSize}
+use Rattle.request.specs.Parse.{requestSize}
+use Rattle.line.specs.Line.{readLine, requestOf}
 use Rattle.assembly.specs.Message.{messageOf, messageRoom}
 use Rattle.assembly.specs.Batch.{newline, lines, rest, used, requestsOf, messagesOf, requestsIn, messagesIn, doneOf, fits}
 use Rattle.assembly.specs.declared.Done.{Done}

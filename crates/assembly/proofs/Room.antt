@@ -4,7 +4,7 @@ use mathlib.Core.Path.{_≡_}
 use mathlib.Core.Bool.{true, false, _&&_, and-eq-true-iff}
 use borrow.Author.Tests.{lt-ltb, le-ltb, le-leb, lt-leb, ltb-true, leb-true}
 use lib.Dec.{leb, ltb}
-use Rattle.line.specs.Line.{requestSize}
+use Rattle.request.specs.Parse.{requestSize}
 use Rattle.assembly.specs.Message.{messageRoom}
 use Rattle.assembly.specs.Batch.{fits}
 

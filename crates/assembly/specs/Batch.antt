@@ -4,7 +4,8 @@ use mathlib.Core.Bool.{Bool, true, false, _&&_, cond}
 use mathlib.Core.List.{List, [], _∷_, _++_}
 use lib.ListN.{length}
 use lib.Dec.{leb, ltb, eqb}
-use Rattle.line.specs.Line.{readLine, requestOf, requestSize}
+use Rattle.request.specs.Parse.{requestSize}
+use Rattle.line.specs.Line.{readLine, requestOf}
 use Rattle.assembly.specs.Message.{messageOf, messageRoom}
 use Rattle.assembly.specs.declared.Done.{Done}
 

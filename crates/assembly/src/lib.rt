@@ -10,9 +10,7 @@ ghost use Rattle.assembly.specs.Batch.{requestsIn, messagesIn, doneOf, f
 ghost use Rattle.assembly.specs.Pieces.{longestStart};
 ghost use Rattle.assembly.specs.Turn.{gathered, textEnd, outcome};
 
-// Room for a request, and for any message.
-pub const REQUEST: usize = 16;
-
+// Room for any message.
 pub const MESSAGE: usize = 117;
 
 // One byte more than a line may have, and a carriage return.
@@ -39,7 +37,7 @@ pub struct Turn {
 fn fits(len: usize, number: u64, out: usize, errors: usize) -> bool
     ensures { λ r. ⌜ r ≡ fits len number out errors ⌝ }
 {
-    if out / REQUEST < len {
+    if out / request::SIZE < len {
         return false;
     }
     if errors / MESSAGE < len {
@@ -67,8 +65,8 @@ fn assemble_lines(input: &[u8], number: u64, out: &mut [u8], errors: &mut [u8]) 
     let mut end = bytes::scan::find(input, 0, input.len(), NEWLINE);
     while end < input.len() {
         let line = line::read(&input[used..end]);
-        requests = output::request(line, out, requests);
-        messages = output::message(&input[used..end], line, next, errors, messages);
+        requests = output::put_request(line, out, requests);
+        messages = output::put_message(&input[used..end], line, next, errors, messages);
         next += 1;
         used = end + 1;
         end = bytes::scan::find(input, used, input.len(), NEWLINE);

@@ -7,7 +7,8 @@ ghost use Prim.Native.Nat.{_+_, _≤_};
 ghost use lib.ListN.{length};
 ghost use Rattle.decimal.specs.Decimal.{width, decimal};
 ghost use Rattle.writing.specs.Overwrite.{overwrite};
-ghost use Rattle.line.specs.Line.{requestSize, requestOf};
+ghost use Rattle.request.specs.Parse.{requestSize};
+ghost use Rattle.line.specs.Line.{requestOf};
 ghost use Rattle.assembly.specs.Message.{shownByte, shown, found, said, saidFound, messageOf, expectedRoom, foundRoom, messageRoom};
 
 const WIDTH: usize = 20;
@@ -121,7 +122,7 @@ fn say_found(
 }
 
 // Writes the request that a line asks for, if any.
-pub(crate) fn request(line: Line, out: &mut [u8], at: usize) -> usize
+pub(crate) fn put_request(line: Line, out: &mut [u8], at: usize) -> usize
     requires { ⌜ at + requestSize ≤ length (now out) ⌝ }
     ensures { λ r. ⌜ (r ≡ at + length (requestOf line)) × (r ≤ at + requestSize) ⌝ }
     ensures { λ _. ⌜ now (out .exit) ≡ overwrite (now (out .entry)) at (requestOf line) ⌝ }
@@ -132,8 +133,8 @@ pub(crate) fn request(line: Line, out: &mut [u8], at: usize) -> usize
             argument,
             count,
         } => {
-            let request = line::encode(operation, argument, count);
-            put(&request, out, at)
+            let bytes = request::encode(operation, argument, count);
+            put(&bytes, out, at)
         }
         Line::Nothing => at,
         Line::BadOperation(_) => at,
@@ -144,7 +145,7 @@ pub(crate) fn request(line: Line, out: &mut [u8], at: usize) -> usize
 }
 
 // Writes what a bad line should have been and what it is, and of any other line nothing.
-pub(crate) fn message(line: &[u8], read: Line, number: u64, out: &mut [u8], at: usize) -> usize
+pub(crate) fn put_message(line: &[u8], read: Line, number: u64, out: &mut [u8], at: usize) -> usize
     requires { ⌜ at + messageRoom ≤ length (now out) ⌝ }
     ensures { λ r. ⌜ (r ≡ at + length (messageOf number (now (line .entry)) read)) × (r ≤ at + messageRoom) ⌝ }
     ensures { λ _. ⌜ now (out .exit) ≡ overwrite (now (out .entry)) at (messageOf number (now (line .entry)) read) ⌝ }

@@ -1,12 +1,12 @@
--- What a line of text asks for, and the bytes of a request.
+-- What a line of text asks for.
 use Prim.Native.Nat.{ℕ}
 use mathlib.Core.Bool.{cond}
-use mathlib.Core.List.{List, [], _∷_, _++_}
+use mathlib.Core.List.{List, [], _∷_}
 use lib.ListN.{length, take, getD}
 use lib.Dec.{ltb, eqb}
 use Rattle.search.specs.First.{first}
 use Rattle.alike.specs.Alike.{alike}
-use Rattle.words.specs.Word.{bytesOf}
+use Rattle.request.specs.Parse.{requestBytes}
 use Rattle.bytes.specs.Bytes.{indexOf}
 use Rattle.line.specs.Text.{bytes, nextWord, wordAt, trimmed}
 use Rattle.line.specs.Number.{limit, number}
@@ -66,15 +66,7 @@ readText line = cond (ltb longestLine (length line)) TooLong (statement (take (i
 abbrev pub readLine : List ℕ → Line
 readLine line = readText (trimmed line)
 
--- four words: the operation, its size or offset, its count, and zero
-abbrev pub requestBytes : ℕ → ℕ → ℕ → List ℕ
-requestBytes operation argument count = bytesOf operation ++ (bytesOf argument ++ (bytesOf count ++ bytesOf 0))
-
--- its length
-abbrev pub requestSize : ℕ
-requestSize = 16
-
--- the request that a line asks for; nothing where it asks for none
+-- the bytes of the request that a line asks for; nothing where it asks for none
 unfoldable pub requestOf : Line → List ℕ
 requestOf (Request operation argument count) = requestBytes operation argument count
 requestOf Nothing = []

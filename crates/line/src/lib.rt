@@ -6,12 +6,12 @@ use alike::same;
 pub use scan::word_bytes;
 ghost use mathlib.Core.Path.{_≡_};
 ghost use mathlib.Core.List.{[]};
-ghost use Prim.Native.Nat.{_%_, _<_, _≤_};
+ghost use Prim.Native.Nat.{_<_, _≤_};
 ghost use lib.ListN.{length, getD};
 ghost use Rattle.alike.specs.Alike.{alike};
 ghost use Rattle.line.specs.Text.{trimmedEnd};
 ghost use Rattle.line.specs.Number.{limit};
-ghost use Rattle.line.specs.Line.{names, operationOf, request, counted, numbers, statement, readText, readLine, requestBytes};
+ghost use Rattle.line.specs.Line.{names, operationOf, request, counted, numbers, statement, readText, readLine};
 
 // Where a word lies in its line.
 pub struct Word {
@@ -156,34 +156,4 @@ pub fn read(line: &[u8]) -> Line
 {
     let end = trimmed_end(line);
     read_text(&line[0..end])
-}
-
-fn low(n: u32) -> u8
-    ensures { λ r. ⌜ r ≡ n % 256 ⌝ }
-{
-    (n % 256) as u8
-}
-
-// The bytes of a request.
-pub fn encode(operation: u32, argument: u32, count: u32) -> [u8; 16]
-    ensures { λ r. ⌜ r ≡ requestBytes operation argument count ⌝ }
-{
-    [
-        low(operation),
-        low(operation / 256),
-        low(operation / 65536),
-        low(operation / 16777216),
-        low(argument),
-        low(argument / 256),
-        low(argument / 65536),
-        low(argument / 16777216),
-        low(count),
-        low(count / 256),
-        low(count / 65536),
-        low(count / 16777216),
-        0,
-        0,
-        0,
-        0,
-    ]
 }

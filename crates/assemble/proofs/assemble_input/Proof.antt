@@ -5,7 +5,7 @@ use mathlib.Core.List.{List}
 use native.Mathlib.Omega.{arith}
 use lib.ListN.{length}
 use borrow.Rule.Slice.PartMut.{same-len-mid}
-use Rattle.line.specs.Line.{requestSize}
+use Rattle.request.specs.Parse.{requestSize}
 use Rattle.assembly.specs.Message.{messageRoom}
 use Rattle.assembly.specs.Pieces.{longestStart}
 use Rattle.assemble.proofs.Statuses.{status-within}

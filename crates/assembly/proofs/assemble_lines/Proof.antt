@@ -33,20 +33,20 @@ part-read-end c = omega arith
 read-requires : tie.Need-read-requires Inv-loop μ-loop
 read-requires c κs = tt
 
-request-requires : tie.Need-request-requires Inv-loop μ-loop
-request-requires c κs = omega arith
+put-request-requires : tie.Need-put-request-requires Inv-loop μ-loop
+put-request-requires c κs = omega arith
 
-sub-message : tie.Need-sub-message Inv-loop μ-loop
-sub-message c = omega arith
+sub-put-message : tie.Need-sub-put-message Inv-loop μ-loop
+sub-put-message c = omega arith
 
-part-message-start : tie.Need-part-message-start Inv-loop μ-loop
-part-message-start c = omega arith
+part-put-message-start : tie.Need-part-put-message-start Inv-loop μ-loop
+part-put-message-start c = omega arith
 
-part-message-end : tie.Need-part-message-end Inv-loop μ-loop
-part-message-end c = omega arith
+part-put-message-end : tie.Need-part-put-message-end Inv-loop μ-loop
+part-put-message-end c = omega arith
 
-message-requires : tie.Need-message-requires Inv-loop μ-loop
-message-requires c κs = omega arith
+put-message-requires : tie.Need-put-message-requires Inv-loop μ-loop
+put-message-requires c κs = omega arith
 
 add-next : tie.Need-add-next Inv-loop μ-loop
 add-next c = omega arith
@@ -62,9 +62,9 @@ loop-less c = omega arith
 
 loop-again : tie.Need-loop-again Inv-loop μ-loop
 loop-again c =
-    let m = c .before .before .before .message in
+    let m = c .before .before .before .put-message in
     let b = c .before .before .before .before .before .before .before .before in
-    let q = b .request in
+    let q = b .put-request in
     let r = b .before .before in
     let l = r .before .before .before .loop in
     assembled-more (l .inv) (omega arith) refl (r .read .ensures)
@@ -95,11 +95,11 @@ assemble-lines-spec =
     part-read-start
     part-read-end
     read-requires
-    request-requires
-    sub-message
-    part-message-start
-    part-message-end
-    message-requires
+    put-request-requires
+    sub-put-message
+    part-put-message-start
+    part-put-message-end
+    put-message-requires
     add-next
     add-used
     find-requires-2

@@ -1,10 +1,11 @@
 -- The bytes of a request, or nothing.
 use native.Mathlib.Omega.{arith}
-use Rattle.line.specs.Line.{requestSize, requestOf}
+use Rattle.request.specs.Parse.{requestSize}
+use Rattle.line.specs.Line.{requestOf}
 use Rattle.writing.proofs.Writing.{nothing-written}
 use borrow.Author.Needs.{needs}
-use Rattle.assembly.proofs.output.request.Statement.{statement}
-use Rattle.assembly.proofs.output.request.Tie as tie
+use Rattle.assembly.proofs.output.put_request.Statement.{statement}
+use Rattle.assembly.proofs.output.put_request.Tie as tie
 
 enum-known-line : tie.Need-enum-known-line
 enum-known-line c = search needs
@@ -62,8 +63,8 @@ returns-6 : tie.Need-returns-6
 unfolding requestOf
 returns-6 c = rw (c .enum-told5 .given .1) (nothing-written (c .before .before .before .args .out .now) (c .before .before .before .args .at) requestSize)
 
-pub request-spec : {M : Type 1} → statement M
-request-spec =
+pub put-request-spec : {M : Type 1} → statement M
+put-request-spec =
     tie.close
     (tie.spec
     enum-known-line

@@ -4,8 +4,8 @@ use Rattle.line.specs.Text.{bytes}
 use Rattle.assembly.specs.Message.{messageRoom, messageOf}
 use Rattle.writing.proofs.Writing.{nothing-written}
 use borrow.Author.Needs.{needs}
-use Rattle.assembly.proofs.output.message.Statement.{statement}
-use Rattle.assembly.proofs.output.message.Tie as tie
+use Rattle.assembly.proofs.output.put_message.Statement.{statement}
+use Rattle.assembly.proofs.output.put_message.Tie as tie
 
 enum-known-read : tie.Need-enum-known-read
 enum-known-read c = search needs
@@ -87,8 +87,8 @@ returns-6 : tie.Need-returns-6
 unfolding messageOf
 returns-6 c = rw (c .enum-told3 .given .1) (nothing-written (c .before .before .before .before .args .out .now) (c .before .before .before .before .args .at) messageRoom)
 
-pub message-spec : {M : Type 1} → statement M
-message-spec =
+pub put-message-spec : {M : Type 1} → statement M
+put-message-spec =
     tie.close
     (tie.spec
     enum-known-read
