@@ -5,13 +5,10 @@ ghost use mathlib.Core.Path.{_≡_};
 ghost use mathlib.Core.List.{map};
 ghost use Prim.Native.Nat.{_+_, _≤_};
 ghost use lib.ListN.{length};
-ghost use Rattle.decimal.specs.Decimal.{width, decimal};
 ghost use Rattle.writing.specs.Overwrite.{overwrite};
 ghost use Rattle.request.specs.Parse.{requestSize};
 ghost use Rattle.line.specs.Line.{requestOf};
 ghost use Rattle.assembly.specs.Message.{shownByte, shown, found, said, saidFound, messageOf, expectedRoom, foundRoom, messageRoom};
-
-const WIDTH: usize = 20;
 
 // How many bytes of a word are shown.
 const SHOWN: usize = 24;
@@ -25,17 +22,6 @@ pub(crate) fn put(text: &[u8], out: &mut [u8], at: usize) -> usize
     let end = at + text.len();
     bytes::copy(text, &mut out[at..end]);
     end
-}
-
-fn put_number(number: u64, out: &mut [u8], at: usize) -> usize
-    requires { ⌜ at + width ≤ length (now out) ⌝ }
-    ensures { λ r. ⌜ (r ≡ at + length (decimal number)) × (r ≤ at + width) ⌝ }
-    ensures { λ _. ⌜ now (out .exit) ≡ overwrite (now (out .entry)) at (decimal number) ⌝ }
-{
-    let digits = decimal::of(number);
-    let text = digits.text;
-    let start = digits.start;
-    put(&text[start..WIDTH], out, at)
 }
 
 fn shown_byte(byte: u8) -> u8
@@ -97,7 +83,7 @@ fn say(number: u64, text: &[u8], out: &mut [u8], at: usize) -> usize
     ensures { λ _. ⌜ now (out .exit) ≡ overwrite (now (out .entry)) at (said number (now (text .entry))) ⌝ }
 {
     let first = put(b"line ", out, at);
-    let second = put_number(number, out, first);
+    let second = decimal::put(out, first, number);
     put(text, out, second)
 }
 

@@ -6,8 +6,8 @@ use native.Mathlib.Nat.{div-lt-iff-lt-mul, pow-suc}
 use native.Mathlib.Omega.{arith}
 use borrow.Author.Tests.{lt-ltb, le-ltb}
 use lib.Dec.{lit<}
-use lib.ListN.{length, set, replicate, length-replicate}
-use lib.Seq.{set-at}
+use lib.ListN.{length, take, drop, set, replicate, length-append, length-replicate}
+use lib.Seq.{set-at, drop-at, take-all}
 use Rattle.decimal.specs.Decimal.{width, decimalIn, decimal}
 
 -- a number of one digit
@@ -68,3 +68,11 @@ spelled-more {start = suc k} {rest} {g} s h e =
 pub spelled-room : {n : ℕ} {text : List ℕ} {start rest : ℕ} → Spelled n text start rest → 9 < rest → 0 < start
 spelled-room {start = zero} s h = absurd (omega (arith, s .small))
 spelled-room {start = suc k} s h = omega arith
+
+-- digits at the end of an array, from `start` on
+module _ {text : List ℕ} (n start : ℕ) (e : text ≡ replicate start 0 ++ decimal n) (f : start + length (decimal n) ≡ width) where
+  pub digits-length : length text ≡ width
+  digits-length = rw e (simp (length-append, length-replicate) f)
+
+  pub digits-part : take (width - start) (drop start text) ≡ decimal n
+  digits-part = rw (e, drop-at (replicate start 0) (decimal n) start (length-replicate start 0)) (take-all (width - start) (decimal n) (omega arith))

@@ -4,33 +4,17 @@ pub mod gather;
 ghost use mathlib.Core.Path.{_≡_};
 ghost use Prim.Native.Nat.{suc, _+_, _-_, _*_, _^_, _<_, _≤_, min};
 ghost use lib.ListN.{length};
-ghost use Rattle.decimal.specs.Decimal.{width, decimal};
+ghost use Rattle.decimal.specs.Decimal.{width};
 ghost use Rattle.writing.specs.Overwrite.{overwrite};
 ghost use Rattle.rules.specs.Call.{State, stateOf};
 ghost use Rattle.replay.specs.Line.{field, lineOf, lineRoom};
 ghost use Rattle.replay.specs.Batch.{Batch, accepted, batchOf, stepOf};
 
-const WIDTH: usize = 20;
-
 // Room for any line.
-pub const LINE_ROOM: usize = 3 * (WIDTH + 1);
+pub const LINE_ROOM: usize = 3 * (decimal::WIDTH + 1);
 
 // The bytes of a request.
 const REQUEST: usize = request::SIZE;
-
-// Writes a number at a place, and answers the place after it.
-fn put_number(out: &mut [u8], at: usize, n: u64) -> usize
-    requires { ⌜ at + width ≤ length (now out) ⌝ }
-    ensures { λ r. ⌜ (r ≡ at + length (decimal n)) × (r ≤ at + width) ⌝ }
-    ensures { λ _. ⌜ now (out .exit) ≡ overwrite (now (out .entry)) at (decimal n) ⌝ }
-{
-    let digits = decimal::of(n);
-    let text = digits.text;
-    let start = digits.start;
-    let end = at + (WIDTH - start);
-    bytes::copy(&text[start..WIDTH], &mut out[at..end]);
-    end
-}
 
 // Writes a number and a byte after it, and answers the place after both.
 fn put_field(out: &mut [u8], at: usize, n: u64, mark: u8) -> usize
@@ -38,7 +22,7 @@ fn put_field(out: &mut [u8], at: usize, n: u64, mark: u8) -> usize
     ensures { λ r. ⌜ (r ≡ at + length (field n mark)) × (r ≤ at + suc width) ⌝ }
     ensures { λ _. ⌜ now (out .exit) ≡ overwrite (now (out .entry)) at (field n mark) ⌝ }
 {
-    let end = put_number(out, at, n);
+    let end = decimal::put(out, at, n);
     out[end] = mark;
     end + 1
 }

@@ -5,7 +5,7 @@ use mathlib.Core.List.{List, [], _∷_, _++_, append-assoc, append-nil}
 use native.Mathlib.Nat.{le-of-eq}
 use native.Mathlib.Numerals.{add-one}
 use native.Mathlib.Omega.{arith}
-use lib.ListN.{length, take, drop, set, replicate, length-append, length-take, length-drop, length-replicate, drop-of-length-le, take-append-drop}
+use lib.ListN.{length, take, drop, set, length-append, length-take, length-drop, drop-of-length-le, take-append-drop}
 use lib.Seq.{take-at, drop-at, drop-drop, take-all, take-length, set-split}
 use Rattle.writing.specs.Overwrite.{overwrite}
 
@@ -46,14 +46,6 @@ wrote-then {xs} {ys = ys} {zs = zs} {a = a} {b = b} f g q = record {
 -- one byte
 pub wrote-byte : (xs : List ℕ) (a v : ℕ) → a < length xs → Wrote xs (set xs a v) a (v ∷ [])
 wrote-byte xs a v h = record { bytes = set-split xs a v h ∙ rw (drop-drop 1 a xs, add-one); room = omega arith }
-
--- digits at the end of an array, from `start` on
-module _ (text d : List ℕ) (start n : ℕ) (e : text ≡ replicate start 0 ++ d) (f : start + length d ≡ n) where
-  pub digits-length : length text ≡ n
-  digits-length = rw e (simp (length-append, length-replicate) f)
-
-  pub digits-part : take (n - start) (drop start text) ≡ d
-  digits-part = rw (e, drop-at (replicate start 0) d start (length-replicate start 0)) (take-all (n - start) d (omega arith))
 
 -- a text copied into a part of the output that is as long
 pub text-put : (out d dst : List ℕ) (at n : ℕ) {w src : List ℕ} → w ≡ take (length src) src ++ drop (length src) dst → src ≡ d
