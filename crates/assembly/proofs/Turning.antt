@@ -4,16 +4,17 @@ use mathlib.Core.Path.{_≡_, refl, sym, ap, _∙_}
 use mathlib.Core.Bool.{Bool, true, false}
 use mathlib.Core.List.{List, [], _∷_, _++_, append-assoc, append-nil}
 use native.Mathlib.Nat.{sub-zero}
+use native.Mathlib.Decide.{decLe}
 use native.Mathlib.Omega.{arith}
-use lib.ListN.{length, take, drop, length-append, length-take, length-drop}
-use lib.Seq.{drop-at, length-take-le, take-add}
+use lib.ListN.{length, take, drop, length-append, length-take}
+use lib.Seq.{drop-at, length-take-le, take-add, take-take, take-all}
 use lib.Dec.{eqb}
 use Rattle.writing.specs.Overwrite.{overwrite}
 use Rattle.assembly.specs.Batch.{newline, linesFrom, restFrom, rest, used, requestsOf, messagesOf, requestsIn, messagesIn, doneOf, fits, taken}
-use Rattle.assembly.specs.Pieces.{longestStart, startOf}
-use Rattle.assembly.specs.Turn.{gathered, textEnd, textIn, Outcome, outcome}
+use Rattle.assembly.specs.Pieces.{longestStart}
+use Rattle.assembly.specs.Turn.{textIn, outcome}
 use Rattle.assembly.specs.declared.Done.{Done}
-use Rattle.assembly.specs.declared.Turn.{Turn}
+use Rattle.assembly.proofs.Gathering.{Gathers}
 use Rattle.assembly.proofs.Splitting.{rest-end, rest-byte}
 
 -- what is left of a text is its end
@@ -40,14 +41,25 @@ rest-left text =
     let front : length (p .front) ≡ used text = omega arith in
     ap (drop (used text)) (p .split) ∙ drop-at (p .front) (rest text) (used text) front
 
-module _ (input : List ℕ) (kept got number : ℕ) (out errors : List ℕ) (end : ℕ) (buffer : List ℕ)
-    (last : end ≡ textEnd (length input) kept got) (within : end ≤ length buffer) (holds : buffer ≡ gathered input kept got)
+take-min : (a b : ℕ) (xs : List ℕ) {n : ℕ} → n ≡ min a b → take n xs ≡ take a (take b xs)
+take-min a b xs {n} e = go (decLe a b)
+  where
+    go : Dec (a ≤ b) → take n xs ≡ take a (take b xs)
+    go (yes h) =
+        let m : n ≡ a = omega arith in
+        rw (m, take-take a b xs h)
+    go (no h) =
+        let m : n ≡ b = omega arith in
+        let size : length (take b xs) ≤ a = rw length-take (omega arith) in
+        rw (m, take-all a (take b xs) size)
+
+module _ (input : List ℕ) (kept got number : ℕ) (out errors : List ℕ) {end : ℕ} {buffer : List ℕ} (g : Gathers input kept got end buffer)
     {room : Bool} (told : room ≡ fits end number (length out) (length errors)) where
   text : textIn input kept got ≡ take (end - 0) buffer
-  text = rw (sub-zero end, last, holds)
+  text = rw (sub-zero end, g .0 .0, g .1)
 
   size : length (take (end - 0) buffer) ≡ end
-  size = rw (sub-zero end) (length-take-le end buffer within)
+  size = rw (sub-zero end) (length-take-le end buffer (g .0 .1))
 
   pub room-left : room ≡ true → fits (length (take (end - 0) buffer)) number (length out) (length errors) ≡ true
   room-left e = rw size (sym told ∙ e)
@@ -59,7 +71,7 @@ module _ (input : List ℕ) (kept got number : ℕ) (out errors : List ℕ) (end
   no-turn e =
       let none : fits (length (take (end - 0) buffer)) number (length out) (length errors) ≡ false = rw size (sym told ∙ e) in
       let same : number + 0 ≡ number = omega arith in
-      rw (text, none, same, holds)
+      rw (text, none, same, g .1)
 
   module _ (e : room ≡ true) {done : Done} (read : done ≡ doneOf number (take (end - 0) buffer)) where
     left : take (end - done .used) (drop (done .used) buffer) ≡ rest (take (end - 0) buffer)
@@ -75,12 +87,12 @@ module _ (input : List ℕ) (kept got number : ℕ) (out errors : List ℕ) (end
         ∙ ap (λ (n : ℕ). drop n (take (end - 0) buffer)) here
         ∙ rest-left (take (end - 0) buffer)
 
-    pub a-turn : {k : ℕ} {input' out' errors' : List ℕ} → k ≡ min longestStart (end - done .used)
-        → input' ≡ overwrite buffer 0 (take longestStart (take (end - done .used) (drop (done .used) buffer)))
+    pub a-turn : {n k : ℕ} {input' out' errors' : List ℕ} → n ≡ min longestStart (end - done .used)
+        → k ≡ length (take n (drop (done .used) buffer)) → input' ≡ overwrite buffer 0 (take n (drop (done .used) buffer))
         → out' ≡ overwrite out 0 (requestsIn (take (end - 0) buffer)) → errors' ≡ overwrite errors 0 (messagesIn number (take (end - 0) buffer))
         → record { turn = record { kept = k; next = done .next; requests = done .requests; messages = done .messages }; input = input'; out = out'; errors = errors' }
         ≡ outcome input kept got number out errors
     unfolding outcome taken
-    a-turn {k} few p q r =
-        let start : length (startOf (take (end - 0) buffer)) ≡ k = rw (← left) (simp (length-take, length-drop) (omega arith)) in
-        rw (text, room-left e, ← read, p, q, r, left, start, ← holds)
+    a-turn few size p q r =
+        let start = take-min longestStart (end - done .used) (drop (done .used) buffer) few ∙ ap (take longestStart) left in
+        rw (text, room-left e, ← read, size, p, q, r, start, ← g .1)

@@ -8,7 +8,7 @@ use native.Mathlib.Omega.{arith}
 use borrow.Author.Tests.{ne-eqb}
 use lib.ListN.{length, take, drop}
 use lib.Seq.{take-add, take-suc-set, take-append-seam}
-use Rattle.assembly.specs.Batch.{newline, doneOf, fits, taken}
+use Rattle.assembly.specs.Batch.{newline, fits, taken}
 use Rattle.assembly.specs.Pieces.{startOf}
 use Rattle.assembly.specs.Turn.{gathered, textEnd, textIn, outcome}
 

@@ -4,7 +4,7 @@ mod output;
 ghost use mathlib.Core.Path.{_≡_};
 ghost use mathlib.Core.Bool.{true};
 ghost use Prim.Native.Nat.{_-_, _≤_, min};
-ghost use lib.ListN.{length, take, drop};
+ghost use lib.ListN.{length};
 ghost use Rattle.writing.specs.Overwrite.{overwrite};
 ghost use Rattle.assembly.specs.Batch.{requestsIn, messagesIn, doneOf, fits};
 ghost use Rattle.assembly.specs.Pieces.{longestStart};
@@ -105,20 +105,6 @@ fn start_len(left: usize) -> usize
     if left < START { left } else { START }
 }
 
-// Puts the start of a line whose end is not read yet at the front, and answers how many bytes.
-fn keep(input: &mut [u8], used: usize, end: usize) -> usize
-    requires { ⌜ (used ≤ end) × (end ≤ length (now input)) ⌝ }
-    ensures { λ r. ⌜ r ≡ min longestStart (end - used) ⌝ }
-    ensures { λ _. ⌜ now (input .exit)
-        ≡ overwrite (now (input .entry)) 0 (take longestStart (take (end - used) (drop used (now (input .entry))))) ⌝ }
-{
-    let count = start_len(end - used);
-    let last = used + count;
-    let mut start = [0u8; START];
-    bytes::copy(&input[used..last], &mut start);
-    output::put(&start[0..count], input, 0)
-}
-
 // Reads the lines of an input at the front of which `kept` bytes were kept by the turn before and behind them `got` bytes read, 0 at its end, and
 // writes their requests and messages. Where these may not fit, or the lines' numbers 64 bits, nothing is read, written or kept.
 pub fn assemble(
@@ -142,7 +128,8 @@ pub fn assemble(
     let end = gather(input, kept, got);
     if fits(end, number, out.len(), errors.len()) {
         let done = assemble_lines(&input[0..end], number, out, errors);
-        let left = keep(input, done.used, end);
+        let count = start_len(end - done.used);
+        let left = writing::shift(input, done.used, count);
         return Turn {
             kept: left,
             next: done.next,

@@ -14,7 +14,7 @@ ghost use Rattle.assembly.specs.Message.{shownByte, shown, found, said, 
 const SHOWN: usize = 24;
 
 // Writes a text at a place, and answers the place after it.
-pub(crate) fn put(text: &[u8], out: &mut [u8], at: usize) -> usize
+fn put(text: &[u8], out: &mut [u8], at: usize) -> usize
     requires { ⌜ at + length (now text) ≤ length (now out) ⌝ }
     ensures { λ r. ⌜ r ≡ at + length (now (text .entry)) ⌝ }
     ensures { λ _. ⌜ now (out .exit) ≡ overwrite (now (out .entry)) at (now (text .entry)) ⌝ }

@@ -1,7 +1,7 @@
 // Requests served as their bytes come: those that are whole at once, and the rest when the next bytes are there or the input has ended.
 ghost use mathlib.Core.Path.{_≡_};
 ghost use Prim.Native.Nat.{_+_, _<_, _≤_};
-ghost use lib.ListN.{length, drop};
+ghost use lib.ListN.{length};
 ghost use Rattle.writing.specs.Overwrite.{overwrite};
 ghost use Rattle.rules.specs.Call.{State, stateOf};
 ghost use Rattle.replay.specs.Batch.{Batch, batchOf};
@@ -22,17 +22,6 @@ fn ready_len(len: usize, ended: bool) -> usize
         return len;
     }
     len / REQUEST * REQUEST
-}
-
-// Moves the bytes from a place on to the front, and answers how many.
-fn keep(input: &mut [u8], from: usize) -> usize
-    requires { ⌜ (from ≤ length (now input)) × (length (now input) < from + 16) ⌝ }
-    ensures { λ r. ⌜ r ≡ length (drop from (now (input .entry))) ⌝ }
-    ensures { λ _. ⌜ now (input .exit) ≡ overwrite (now (input .entry)) 0 (drop from (now (input .entry))) ⌝ }
-{
-    let mut rest = [0u8; REQUEST];
-    let kept = bytes::copy(&input[from..], &mut rest);
-    bytes::copy(&rest[0..kept], input)
 }
 
 // Serves as `batch` does the whole requests of the bytes gathered, or all of them where the input has ended, and moves the rest to the front.
@@ -56,7 +45,7 @@ pub fn serve(
 {
     let end = ready_len(input.len(), ended);
     let done = crate::batch(heap, metadata, &input[0..end], number, out);
-    let kept = keep(input, end);
+    let kept = writing::shift(input, end, REQUEST);
     Served {
         written: done.written,
         next: done.next,

@@ -1,3 +1,4 @@
 pub mod Writing
 pub mod Fitting
 pub mod Parts
+pub mod Shifting

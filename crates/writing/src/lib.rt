@@ -1,7 +1,8 @@
-// Writing over bytes: the definition and its laws, for the contracts and proofs of the crates above, and the one copy from lent bytes to lent bytes.
+// Writing over bytes: the definition and its laws, for the contracts and proofs of the crates above, the one copy from lent bytes
+// to lent bytes, and the one move within lent bytes.
 ghost use mathlib.Core.Path.{_≡_};
 ghost use Prim.Native.Nat.{_≤_};
-ghost use lib.ListN.{length, take};
+ghost use lib.ListN.{length, take, drop};
 ghost use Rattle.writing.specs.Overwrite.{overwrite};
 
 // The longest part that becomes one block move.
@@ -33,4 +34,23 @@ pub fn write(target: &mut [u8], source: &[u8]) -> usize
         return block_move(source, target);
     }
     block_move(&source[0..room], target)
+}
+
+// Moves `count` bytes from a place on to the front, or as many as there are, and answers how many.
+pub fn shift(bytes: &mut [u8], from: usize, count: usize) -> usize
+    ensures { λ r.
+        let part = take count (drop from (now (bytes .entry))) in
+        ⌜ (r ≡ length part) × (now (bytes .exit) ≡ overwrite (now (bytes .entry)) 0 part) ⌝ }
+{
+    let mut done: usize = 0;
+    let mut at = from;
+    while done < count {
+        if bytes.len() <= at {
+            return done;
+        }
+        bytes[done] = bytes[at];
+        done += 1;
+        at += 1;
+    }
+    done
 }

@@ -1,7 +1,8 @@
--- One turn, where there is room and where there may be none.
-use native.Mathlib.Omega.{arith}
-use Rattle.assembly.proofs.Turning.{room-left, no-turn, a-turn}
+-- `assemble` does one turn, where there is room and where there may be none.
 use borrow.Author.Needs.{needs}
+use native.Mathlib.Omega.{arith}
+use lib.ListN.{drop, length-take}
+use Rattle.assembly.proofs.Turning.{room-left, no-turn, a-turn}
 use Rattle.assembly.proofs.assemble.Statement.{statement}
 use Rattle.assembly.proofs.assemble.Tie as tie
 
@@ -22,13 +23,20 @@ part-assemble-lines-end c = search needs
 
 assemble-lines-requires : tie.Need-assemble-lines-requires
 assemble-lines-requires c κs =
-    let b = c .before .before .before .before in
-    let g = b .before .before .before .before .gather in
-    let a = b .before .before .before .before .before .before .before .before .before .args in
-    room-left (a .input .now) (a .kept) (a .got) (a .number) (a .out .now) (a .errors .now) (g .result) (g .last .0) (g .ensures .0 .0) (g .ensures .0 .1) (g .ensures .1) (b .before .fits2 .ensures) (b .if1 .taken)
+    let tested = c .before .before .before .before in
+    let gathered = tested .before .before .before .before in
+    let a = gathered .before .before .before .before .before .args in
+    room-left (a .input .now) (a .kept) (a .got) (a .number) (a .out .now) (a .errors .now) (gathered .gather .ensures)
+    (tested .before .fits2 .ensures) (tested .if1 .taken)
 
-keep-requires : tie.Need-keep-requires
-keep-requires c κs = search needs
+sub-start-len : tie.Need-sub-start-len
+sub-start-len c = search needs
+
+start-len-requires : tie.Need-start-len-requires
+start-len-requires c κs = search needs
+
+shift-requires : tie.Need-shift-requires
+shift-requires c κs = search needs
 
 same-length : tie.Need-same-length
 same-length c = search needs
@@ -41,13 +49,18 @@ same-length-3 c = search needs
 
 returns : tie.Need-returns
 returns c =
-    let d = c .before .before .before .before .before .before .before .before in
-    let b = d .before .before .before .before .before in
-    let g = b .before .before .before .before .gather in
-    let a = b .before .before .before .before .before .before .before .before .before .args in
-    let k = c .before .before .keep in
-    let e = d .assemble-lines .ensures in (
-      a-turn (a .input .now) (a .kept) (a .got) (a .number) (a .out .now) (a .errors .now) (g .result) (g .last .0) (g .ensures .0 .0) (g .ensures .0 .1) (g .ensures .1) (b .before .fits2 .ensures) (b .if1 .taken) (e .0 .0) (k .ensures .0) (k .ensures .1) (e .1 .1 .0) (e .1 .1 .1),
+    let shifted = c .before .before in
+    let counted = shifted .before .before in
+    let read = counted .before .before .before .before .before .before in
+    let tested = read .before .before .before .before .before in
+    let gathered = tested .before .before .before .before in
+    let a = gathered .before .before .before .before .before .args in
+    let e = read .assemble-lines .ensures in
+    let n = counted .start-len in
+    let s = shifted .shift .ensures in
+    let few = length-take (n .result) (drop (read .assemble-lines .result .used) (gathered .gather .last .0)) in (
+      a-turn (a .input .now) (a .kept) (a .got) (a .number) (a .out .now) (a .errors .now) (gathered .gather .ensures)
+          (tested .before .fits2 .ensures) (tested .if1 .taken) (e .0 .0) (n .ensures) (s .0) (s .1) (e .1 .1 .0) (e .1 .1 .1),
       ((omega arith, omega arith), omega arith),
     )
 
@@ -56,9 +69,12 @@ same-length-4 c = search needs
 
 returns-2 : tie.Need-returns-2
 returns-2 c =
-    let a = c .before .before .before .before .before .before .before .before .before .args in
-    let g = c .before .before .before .before .gather in
-    (no-turn (a .input .now) (a .kept) (a .got) (a .number) (a .out .now) (a .errors .now) (g .result) (g .last .0) (g .ensures .0 .0) (g .ensures .0 .1) (g .ensures .1) (c .before .fits2 .ensures) (c .if1 .left), ((omega arith, omega arith), omega arith))
+    let gathered = c .before .before .before .before in
+    let a = gathered .before .before .before .before .before .args in (
+      no-turn (a .input .now) (a .kept) (a .got) (a .number) (a .out .now) (a .errors .now) (gathered .gather .ensures)
+          (c .before .fits2 .ensures) (c .if1 .left),
+      ((omega arith, omega arith), omega arith),
+    )
 
 pub assemble-spec : {M : Type 1} → statement M
 assemble-spec =
@@ -70,7 +86,9 @@ assemble-spec =
     part-assemble-lines-start
     part-assemble-lines-end
     assemble-lines-requires
-    keep-requires
+    sub-start-len
+    start-len-requires
+    shift-requires
     same-length
     same-length-2
     same-length-3

@@ -1,5 +1,4 @@
 -- The last byte of a line tells whether it is part of it.
-use mathlib.Core.Path.{_≡_}
 use native.Mathlib.Omega.{arith}
 use borrow.Author.Needs.{needs}
 use Rattle.line.proofs.Reading.{no-byte, return-last, other-last}

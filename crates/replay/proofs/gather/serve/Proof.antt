@@ -1,9 +1,11 @@
 -- `serve` serves what is ready and keeps the rest.
 use borrow.Author.Needs.{needs}
-use native.Mathlib.Omega.{arith}
-use mathlib.Core.Path.{_∙_}
+use Prim.Native.Nat.{_<_}
 use native.Mathlib.Nat.{sub-zero}
-use lib.ListN.{length-drop}
+use native.Mathlib.Omega.{arith}
+use lib.ListN.{length, drop, length-drop}
+use lib.Seq.{take-all}
+use Rattle.request.specs.Parse.{requestSize}
 use Rattle.replay.proofs.gather.serve.Statement.{statement}
 use Rattle.replay.proofs.gather.serve.Tie as tie
 
@@ -22,8 +24,8 @@ part-batch-end c = search needs
 batch-requires : tie.Need-batch-requires
 batch-requires c κs = search needs
 
-keep-requires : tie.Need-keep-requires
-keep-requires c κs = search needs
+shift-requires : tie.Need-shift-requires
+shift-requires c κs = search needs
 
 same-length : tie.Need-same-length
 same-length c = search needs
@@ -39,14 +41,16 @@ same-length-4 c = search needs
 
 returns : tie.Need-returns
 returns c =
-    let moving = c .before .before in
-    let kept = moving .keep in
-    let served = moving .before .before .before .before .before .before .before .before in
-    let end = served .before .before .before .before .before .before .ready-len in
+    let moved = c .before .before in
+    let served = moved .before .before .before .before .before .before .before .before in
+    let measured = served .before .before .before .before .before .before in
+    let end = measured .ready-len in
+    let input = measured .before .before .before .before .before .args .input .now in
+    let few : length (drop (end .result) input) < requestSize = rw length-drop (omega arith) in
     let lines = rw (sub-zero (end .result), end .ensures .0) at (served .batch .ensures) in
-    let moved = rw (end .ensures .0) at (kept .ensures) in
-    let few = kept .ensures .0 ∙ length-drop (end .result) _ in
-    (lines .0, (moved .0, (moved .1, (lines .1, omega (arith, few)))))
+    let whole = rw (take-all requestSize (drop (end .result) input) (omega arith)) at (moved .shift .ensures) in
+    let kept = rw (end .ensures .0) at whole in
+    (lines .0, (kept .0, (kept .1, (lines .1, omega (arith, whole .0)))))
 
 pub serve-spec : {M : Type 1} → statement M
 serve-spec =
@@ -57,7 +61,7 @@ serve-spec =
     part-batch-start
     part-batch-end
     batch-requires
-    keep-requires
+    shift-requires
     same-length
     same-length-2
     same-length-3
