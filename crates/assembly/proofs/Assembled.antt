@@ -17,7 +17,8 @@ use Rattle.writing.proofs.Writing.{Wrote, wrote-then, wrote-length}
 use Rattle.assembly.proofs.Room.{room-known}
 use Rattle.assembly.proofs.Splitting.{line-found, rest-found, no-line, no-more}
 
--- the lines before `at` are read, and their requests and messages written; the next line has the number `next` and ends at `end`
+-- the lines before `at` are read, and their requests and messages written; the next line has the number `next` and ends
+-- at `end`
 pub record Assembled (input : List ℕ) (number : ℕ) (out₀ errors₀ out errors : List ℕ) (at next filled said end : ℕ) : Type 0 where
   pub requests : List ℕ
   pub messages : List ℕ

@@ -10,7 +10,7 @@ use lib.ListN.{length, take, drop, length-append, length-take}
 use lib.Seq.{drop-at, length-take-le, take-add, take-take, take-all}
 use lib.Dec.{eqb}
 use Rattle.writing.specs.Overwrite.{overwrite}
-use Rattle.assembly.specs.Batch.{newline, linesFrom, restFrom, rest, used, requestsOf, messagesOf, requestsIn, messagesIn, doneOf, fits, taken}
+use Rattle.assembly.specs.Batch.{newline, linesFrom, restFrom, rest, used, requestsOf, messagesOf, requestsIn, messagesIn, doneOf, fits, admitted}
 use Rattle.assembly.specs.Pieces.{longestStart}
 use Rattle.assembly.specs.Turn.{textIn, outcome}
 use Rattle.assembly.specs.declared.Done.{Done}
@@ -67,7 +67,7 @@ module _ (input : List ℕ) (kept got number : ℕ) (out errors : List ℕ) {end
   pub no-turn : room ≡ false
       → record { turn = record { kept = 0; next = number; requests = 0; messages = 0 }; input = buffer; out = out; errors = errors }
       ≡ outcome input kept got number out errors
-  unfolding outcome taken doneOf linesFrom restFrom requestsOf messagesOf
+  unfolding outcome admitted doneOf linesFrom restFrom requestsOf messagesOf
   no-turn e =
       let none : fits (length (take (end - 0) buffer)) number (length out) (length errors) ≡ false = rw size (sym told ∙ e) in
       let same : number + 0 ≡ number = omega arith in
@@ -92,7 +92,7 @@ module _ (input : List ℕ) (kept got number : ℕ) (out errors : List ℕ) {end
         → out' ≡ overwrite out 0 (requestsIn (take (end - 0) buffer)) → errors' ≡ overwrite errors 0 (messagesIn number (take (end - 0) buffer))
         → record { turn = record { kept = k; next = done .next; requests = done .requests; messages = done .messages }; input = input'; out = out'; errors = errors' }
         ≡ outcome input kept got number out errors
-    unfolding outcome taken
+    unfolding outcome admitted
     a-turn few size p q r =
         let start = take-min longestStart (end - done .used) (drop (done .used) buffer) few ∙ ap (take longestStart) left in
         rw (text, room-left e, ← read, size, p, q, r, start, ← g .1)

@@ -1,4 +1,5 @@
--- Turn by turn the lines of `linesIn` are read: a turn's text is what was kept and what was read, and what it keeps stands at the front.
+-- Turn by turn the lines of `linesIn` are read: a turn's text is what was kept and what was read, and what it keeps
+-- stands at the front.
 use Prim.Native.Nat.{ℕ, _+_, _≤_, _<_, min}
 use mathlib.Core.Path.{_≡_}
 use mathlib.Core.Bool.{true}
@@ -8,7 +9,7 @@ use native.Mathlib.Omega.{arith}
 use borrow.Author.Tests.{ne-eqb}
 use lib.ListN.{length, take, drop}
 use lib.Seq.{take-add, take-suc-set, take-append-seam}
-use Rattle.assembly.specs.Batch.{newline, fits, taken}
+use Rattle.assembly.specs.Batch.{newline, fits, admitted}
 use Rattle.assembly.specs.Pieces.{startOf}
 use Rattle.assembly.specs.Turn.{gathered, textEnd, textIn, outcome}
 
@@ -28,5 +29,5 @@ module _ (input : List ℕ) (kept got : ℕ) where
 
   pub start-first : (number : ℕ) (out errors : List ℕ) → fits (length (textIn input kept got)) number (length out) (length errors) ≡ true
       → take (outcome input kept got number out errors .turn .kept) (outcome input kept got number out errors .input) ≡ startOf (textIn input kept got)
-  unfolding outcome taken
+  unfolding outcome admitted
   start-first number out errors room = rw room (take-append-seam (startOf (textIn input kept got)) _)

@@ -63,5 +63,5 @@ abbrev pub fits : ℕ → ℕ → ℕ → ℕ → Bool
 fits n number out errors = leb (n * requestSize) out && (leb (n * messageRoom) errors && ltb (number + n) (2 ^ 64))
 
 -- what is read of a text: all, or nothing where there may be no room
-unfoldable pub taken : List ℕ → ℕ → ℕ → ℕ → List ℕ
-taken text number out errors = cond (fits (length text) number out errors) text []
+unfoldable pub admitted : List ℕ → ℕ → ℕ → ℕ → List ℕ
+admitted text number out errors = cond (fits (length text) number out errors) text []

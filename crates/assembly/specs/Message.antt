@@ -21,7 +21,8 @@ shownByte b = cond (leb 33 b && leb b 126) b 63
 -- a word between quotes; dots after them say that it is longer
 unfoldable pub shown : List ℕ → List ℕ
 shown word =
-    bytes "\"" ++ (map shownByte (take shownMost word) ++ cond (leb (length word) shownMost) (bytes "\"\n") (bytes "\"...\n"))
+    let close : List ℕ = cond (leb (length word) shownMost) (bytes "\"\n") (bytes "\"...\n") in
+    bytes "\"" ++ (map shownByte (take shownMost word) ++ close)
 
 -- what stands where something else was expected
 unfoldable pub found : List ℕ → List ℕ
@@ -39,7 +40,8 @@ saidFound number expected line w = said number (expected ++ found (wordAt line w
 unfoldable pub messageOf : ℕ → List ℕ → Line → List ℕ
 messageOf number line (Request operation argument count) = []
 messageOf number line Nothing = []
-messageOf number line (BadOperation w) = saidFound number (bytes ": expected place, free, measure, copy, text or counted, found ") line w
+messageOf number line (BadOperation w) =
+    saidFound number (bytes ": expected place, free, measure, copy, text or counted, found ") line w
 messageOf number line (BadNumber w) = saidFound number (bytes ": expected a number from 0 to 4294967295, found ") line w
 messageOf number line (TrailingText w) = saidFound number (bytes ": expected nothing after the numbers, found ") line w
 messageOf number line TooLong = said number (bytes ": expected at most 255 bytes, found more\n")

@@ -5,12 +5,13 @@ use mathlib.Core.List.{List}
 use lib.ListN.{length, take, set}
 use lib.Dec.{eqb}
 use Rattle.writing.specs.Overwrite.{overwrite}
-use Rattle.assembly.specs.Batch.{newline, requestsIn, messagesIn, doneOf, taken}
+use Rattle.assembly.specs.Batch.{newline, requestsIn, messagesIn, doneOf, admitted}
 use Rattle.assembly.specs.Pieces.{startOf}
 use Rattle.assembly.specs.declared.Done.{Done}
 use Rattle.assembly.specs.declared.Turn.{Turn}
 
--- a buffer of which `kept` bytes were there before and the `got` bytes after them were read; where none were, the line end that the last line may lack
+-- a buffer of which `kept` bytes were there before and the `got` bytes after them were read; where none were, the line
+-- end that the last line may lack
 unfoldable pub gathered : List ℕ → ℕ → ℕ → List ℕ
 gathered input kept got = cond (eqb got 0) (set input kept newline) input
 
@@ -32,7 +33,7 @@ pub record Outcome : Type 0 where
 -- the text is read, and the start of its unfinished line put at the front of the input
 unfoldable pub outcome : List ℕ → ℕ → ℕ → ℕ → List ℕ → List ℕ → Outcome
 outcome input kept got number out errors =
-    let text : List ℕ = taken (textIn input kept got) number (length out) (length errors) in
+    let text : List ℕ = admitted (textIn input kept got) number (length out) (length errors) in
     let done : Done = doneOf number text in
     record {
       turn = record { kept = length (startOf text); next = done .next; requests = done .requests; messages = done .messages };

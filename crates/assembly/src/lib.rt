@@ -18,7 +18,8 @@ const START: usize = 257;
 
 const NEWLINE: u8 = b'\n';
 
-// How much of an input is read, the number of the line after it, and how many bytes of requests and of messages are written.
+// How much of an input is read, the number of the line after it, and how many bytes of requests and of messages are
+// written.
 struct Done {
     used: usize,
     next: u64,
@@ -26,7 +27,8 @@ struct Done {
     messages: usize,
 }
 
-// How many bytes are kept of a line whose end is not read yet, the number of that line, and how many bytes of requests and of messages are written.
+// How many bytes are kept of a line whose end is not read yet, the number of that line, and how many bytes of requests
+// and of messages are written.
 pub struct Turn {
     pub kept: usize,
     pub next: u64,
@@ -49,8 +51,8 @@ fn fits(len: usize, number: u64, out: usize, errors: usize) -> bool
     true
 }
 
-// Reads every line of the input that has its end, writes the requests that they ask for at the front of the output, and at the front of the errors
-// what bad lines should have been. No line takes less than a byte, so there is room for all.
+// Reads every line of the input that has its end, writes the requests that they ask for at the front of the output, and
+// at the front of the errors what bad lines should have been. No line takes less than a byte, so there is room for all.
 fn assemble_lines(input: &[u8], number: u64, out: &mut [u8], errors: &mut [u8]) -> Done
     requires { ⌜ fits (length (now input)) number (length (now out)) (length (now errors)) ≡ true ⌝ }
     ensures { λ r. ⌜ (r ≡ doneOf number (now (input .entry))) × (r .used ≤ length (now (input .entry))) ⌝ }
@@ -79,7 +81,8 @@ fn assemble_lines(input: &[u8], number: u64, out: &mut [u8], errors: &mut [u8]) 
     }
 }
 
-// Where the text ends of which `kept` bytes were there before and `got` were read. Where none were, it gets the end that its last line may lack.
+// Where the text ends of which `kept` bytes were there before and `got` were read. Where none were, it gets the end
+// that its last line may lack.
 fn gather(input: &mut [u8], kept: usize, got: usize) -> usize
     ensures { λ r. ⌜ (r ≡ textEnd (length (now (input .entry))) kept got) × (r ≤ length (now (input .exit))) ⌝ }
     ensures { λ _. ⌜ now (input .exit) ≡ gathered (now (input .entry)) kept got ⌝ }
@@ -105,8 +108,9 @@ fn start_len(left: usize) -> usize
     if left < START { left } else { START }
 }
 
-// Reads the lines of an input at the front of which `kept` bytes were kept by the turn before and behind them `got` bytes read, 0 at its end, and
-// writes their requests and messages. Where these may not fit, or the lines' numbers 64 bits, nothing is read, written or kept.
+// Reads the lines of an input at the front of which `kept` bytes were kept by the turn before and behind them `got`
+// bytes read, 0 at its end, and writes their requests and messages. Where these may not fit, or the lines' numbers 64
+// bits, nothing is read, written or kept.
 pub fn assemble(
     input: &mut [u8],
     kept: usize,

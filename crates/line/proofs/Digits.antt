@@ -1,4 +1,4 @@
--- Numbers read digit by digit.
+-- What `more` and `number` come to, case by case, and a word read digit by digit.
 use Prim.Native.Nat.{ℕ, _+_, _-_, _*_, _≤_, _<_, min}
 use mathlib.Core.Path.{_≡_, _∙_}
 use mathlib.Core.List.{List}
@@ -7,7 +7,7 @@ use native.Mathlib.Omega.{arith}
 use borrow.Author.Tests.{le-leb, lt-leb, eq-eqb, ne-eqb}
 use lib.ListN.{length, getD, drop, drop-of-length-le}
 use lib.Seq.{drop-cons}
-use Rattle.line.specs.Number.{limit, more, digits, number}
+use Rattle.line.specs.Number.{limit, more, withDigits, number}
 
 module _ (n b : ℕ) where
   pub more-below : b < 48 → limit ≡ more n b
@@ -34,13 +34,13 @@ module _ (word : List ℕ) where
   unfolding number
   number-none h = rw (eq-eqb (length word) 0 h)
 
-  module _ (n i : ℕ) (read : digits 0 word ≡ digits n (drop i word)) where
+  module _ (n i : ℕ) (read : withDigits 0 word ≡ withDigits n (drop i word)) where
     -- a digit more
-    pub digits-more : {next : ℕ} → i < length word → next ≡ more n (getD word i 0) → digits 0 word ≡ digits next (drop (i + 1) word)
-    unfolding digits
-    digits-more h e = read ∙ rw (add-one, drop-cons word i 0 h, e, digits)
+    pub digits-more : {next : ℕ} → i < length word → next ≡ more n (getD word i 0) → withDigits 0 word ≡ withDigits next (drop (i + 1) word)
+    unfolding withDigits
+    digits-more h e = read ∙ rw (add-one, drop-cons word i 0 h, e, withDigits)
 
     -- all of them
     pub digits-all : (length word ≡ 0 → ⊥) → length word ≤ i → n ≡ number word
-    unfolding digits number
+    unfolding withDigits number
     digits-all h l = rw (ne-eqb (length word) 0 h, read, drop-of-length-le word l)

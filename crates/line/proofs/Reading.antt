@@ -13,7 +13,7 @@ use lib.Dec.{eqb}
 use Rattle.bytes.specs.Bytes.{slice, indexOf}
 use Rattle.line.specs.Text.{nextWord, wordAt, carriageReturn, trimmedEnd, trimmed}
 use Rattle.line.specs.Number.{limit, number}
-use Rattle.line.specs.Line.{operationOf, request, counted, numbers, statement, hash, longestLine, readText, readLine}
+use Rattle.line.specs.Line.{operationOf, request, counted, operands, statement, hash, longestLine, readText, readLine}
 use Rattle.line.specs.declared.Word.{Word}
 use Rattle.line.specs.declared.Line.the-variants.{Request, Nothing, BadOperation, BadNumber, TrailingText, TooLong}
 
@@ -37,16 +37,16 @@ module _ (text : List ℕ) (a : ℕ) {w : Word} (next : w ≡ nextWord text a) w
     a-count argument h = rw (← next, ← read, lt-ltb n limit h)
 
     module _ (operation : ℕ) where
-      pub bad-argument : limit ≤ n → BadNumber w ≡ numbers text a operation
-      unfolding numbers
+      pub bad-argument : limit ≤ n → BadNumber w ≡ operands text a operation
+      unfolding operands
       bad-argument h = rw (← next, ← read, le-ltb n limit h)
 
-      pub two-numbers : n < limit → operation ≡ 5 → counted text (w .end) n ≡ numbers text a operation
-      unfolding numbers
+      pub two-numbers : n < limit → operation ≡ 5 → counted text (w .end) n ≡ operands text a operation
+      unfolding operands
       two-numbers h e = rw (← next, ← read, lt-ltb n limit h, eq-eqb operation 5 e)
 
-      pub one-number : n < limit → (operation ≡ 5 → ⊥) → request text (w .end) operation n 0 ≡ numbers text a operation
-      unfolding numbers
+      pub one-number : n < limit → (operation ≡ 5 → ⊥) → request text (w .end) operation n 0 ≡ operands text a operation
+      unfolding operands
       one-number h e = rw (← next, ← read, lt-ltb n limit h, ne-eqb operation 5 e)
 
 module _ (text : List ℕ) {w : Word} (next : w ≡ nextWord text 0) where
@@ -59,7 +59,7 @@ module _ (text : List ℕ) {w : Word} (next : w ≡ nextWord text 0) where
     unfolding statement
     no-operation h = rw (← next, ne-eqb (w .start) (length text) some, ← named, eq-eqb operation 6 h)
 
-    pub an-operation : (operation ≡ 6 → ⊥) → numbers text (w .end) operation ≡ statement text
+    pub an-operation : (operation ≡ 6 → ⊥) → operands text (w .end) operation ≡ statement text
     unfolding statement
     an-operation h = rw (← next, ne-eqb (w .start) (length text) some, ← named, ne-eqb operation 6 h)
 
@@ -112,7 +112,8 @@ word-within text w {start} {end} e f = go (decLt (w .start) end) (decLe (w .end)
         let s : start ≡ w .start = omega arith in
         let t : end ≡ length text = omega arith in
         let size : length (drop (w .start) text) ≡ length text - w .start = length-drop (w .start) text in
-        rw (s, t, take-all (length text - w .start) (drop (w .start) text) (omega arith), take-all (w .end - w .start) (drop (w .start) text) (omega arith))
+        let rest : List ℕ = drop (w .start) text in
+        rw (s, t, take-all (length text - w .start) rest (omega arith), take-all (w .end - w .start) rest (omega arith))
     go (no h) (yes l) =
         let s : end - start ≡ 0 = omega arith in
         let t : w .end - w .start ≡ 0 = omega arith in

@@ -36,8 +36,8 @@ counted text a argument =
     cond (ltb count limit) (request text (w .end) 5 argument count) (BadNumber w)
 
 -- the numbers from place a on
-unfoldable pub numbers : List ℕ → ℕ → ℕ → Line
-numbers text a operation =
+unfoldable pub operands : List ℕ → ℕ → ℕ → Line
+operands text a operation =
     let w : Word = nextWord text a in
     let argument : ℕ = number (wordAt text w) in
     cond (ltb argument limit)
@@ -49,7 +49,9 @@ unfoldable pub statement : List ℕ → Line
 statement text =
     let w : Word = nextWord text 0 in
     let operation : ℕ = operationOf (wordAt text w) in
-    cond (eqb (w .start) (length text)) Nothing (cond (eqb operation 6) (BadOperation w) (numbers text (w .end) operation))
+    cond (eqb (w .start) (length text))
+    Nothing
+    (cond (eqb operation 6) (BadOperation w) (operands text (w .end) operation))
 
 abbrev pub hash : ℕ
 hash = 35

@@ -14,10 +14,10 @@ unfoldable pub more : ℕ → ℕ → ℕ
 more n b = cond (leb 48 b && leb b 57) (min limit (10 * n + (b - 48))) limit
 
 -- a number with all digits of a text
-unfoldable pub digits : ℕ → List ℕ → ℕ
-digits n [] = n
-digits n (b ∷ rest) = digits (more n b) rest
+unfoldable pub withDigits : ℕ → List ℕ → ℕ
+withDigits n [] = n
+withDigits n (b ∷ rest) = withDigits (more n b) rest
 
 -- the number that a word spells; the limit where it spells none below it
 unfoldable pub number : List ℕ → ℕ
-number word = cond (eqb (length word) 0) limit (digits 0 word)
+number word = cond (eqb (length word) 0) limit (withDigits 0 word)

@@ -11,7 +11,7 @@ ghost use lib.ListN.{length, getD};
 ghost use Rattle.alike.specs.Alike.{alike};
 ghost use Rattle.line.specs.Text.{trimmedEnd};
 ghost use Rattle.line.specs.Number.{limit};
-ghost use Rattle.line.specs.Line.{names, operationOf, request, counted, numbers, statement, readText, readLine};
+ghost use Rattle.line.specs.Line.{names, operationOf, request, counted, operands, statement, readText, readLine};
 
 // Where a word lies in its line.
 pub struct Word {
@@ -96,9 +96,9 @@ fn counted(text: &[u8], from: usize, argument: u64) -> Line
 }
 
 // The numbers after the operation's name.
-fn numbers(text: &[u8], from: usize, operation: u32) -> Line
+fn operands(text: &[u8], from: usize, operation: u32) -> Line
     requires { ⌜ from ≤ length (now text) ⌝ }
-    ensures { λ r. ⌜ r ≡ numbers (now (text .entry)) from operation ⌝ }
+    ensures { λ r. ⌜ r ≡ operands (now (text .entry)) from operation ⌝ }
 {
     let word = scan::next(text, from);
     let argument = number::of(scan::word_bytes(text, word));
@@ -123,7 +123,7 @@ fn statement(text: &[u8]) -> Line
     if operation == OPERATIONS {
         return Line::BadOperation(word);
     }
-    numbers(text, word.end, operation)
+    operands(text, word.end, operation)
 }
 
 // Where a line ends without the carriage return that may stand before its line feed.

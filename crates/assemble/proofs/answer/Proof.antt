@@ -1,4 +1,4 @@
--- Messages change the status, and a failed write.
+-- `answer` answers that a write failed, or the status after the messages.
 use mathlib.Core.Path.{refl}
 use mathlib.Core.Logic.{inl, inr}
 use Rattle.assemble.proofs.Statuses.{none-said, some-said}

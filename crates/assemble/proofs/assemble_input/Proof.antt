@@ -1,4 +1,4 @@
--- The loop is safe, ends, and answers a status.
+-- `assemble_input` is safe, ends, and answers a status.
 use Prim.Native.Nat.{ℕ, _-_, _*_, _^_, _≤_, _<_}
 use mathlib.Core.Path.{_≡_}
 use mathlib.Core.List.{List}

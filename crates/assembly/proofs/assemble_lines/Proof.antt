@@ -1,4 +1,4 @@
--- All lines of an input, line by line.
+-- `assemble_lines` reads all lines of an input, line by line.
 use Prim.Native.Nat.{_-_, _≤_}
 use mathlib.Core.Path.{refl}
 use native.Mathlib.Omega.{arith}
@@ -62,13 +62,13 @@ loop-less c = omega arith
 
 loop-again : tie.Need-loop-again Inv-loop μ-loop
 loop-again c =
-    let m = c .before .before .before .put-message in
+    let m = c .before .before .before .put-message .ensures in
     let b = c .before .before .before .before .before .before .before .before in
-    let q = b .put-request in
+    let q = b .put-request .ensures in
     let r = b .before .before in
     let l = r .before .before .before .loop in
     assembled-more (l .inv) (omega arith) refl (r .read .ensures)
-    (q .ensures .0 .0) (q .ensures .0 .1) (q .ensures .1) (m .ensures .0 .0) (m .ensures .0 .1) (m .ensures .1) (c .find2 .ensures .0) (omega arith)
+    (q .0 .0) (q .0 .1) (q .1) (m .0 .0) (m .0 .1) (m .1) (c .find2 .ensures .0) (omega arith)
 
 same-length : tie.Need-same-length Inv-loop μ-loop
 same-length c = c .before .loop .inv .out-kept
@@ -79,7 +79,8 @@ same-length-2 c = c .before .loop .inv .errors-kept
 returns : tie.Need-returns Inv-loop μ-loop
 returns c =
     let p = c .before .loop .inv in
-    let none : length (c .before .before .before .before .before .before .args .input .now) ≤ c .before .loop .end = omega arith in
+    let a = c .before .before .before .before .before .before .args in
+    let none : length (a .input .now) ≤ c .before .loop .end = omega arith in
     rw (all-requests p none, all-messages p none)
     ((all-done p none, omega arith), ((omega arith, omega arith), (p .requests-wrote .bytes, p .messages-wrote .bytes)))
 

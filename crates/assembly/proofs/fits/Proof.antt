@@ -1,4 +1,4 @@
--- Room is told by division.
+-- `fits` tells by division whether there is room.
 use native.Mathlib.Omega.{arith}
 use Rattle.assembly.proofs.Room.{short-output, short-errors, short-numbers, room}
 use borrow.Author.Needs.{needs}

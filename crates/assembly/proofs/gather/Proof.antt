@@ -1,4 +1,4 @@
--- Where the text of a buffer ends, in each of four cases.
+-- `gather` answers where the text of a buffer ends, in each of four cases.
 use native.Mathlib.Omega.{arith}
 use Rattle.assembly.proofs.Gathering.{nothing-free, input-ended, buffer-full, some-read}
 use borrow.Author.Needs.{needs}

@@ -1,4 +1,4 @@
--- The lesser of two numbers.
+-- `start_len` answers the lesser of two numbers.
 use native.Mathlib.Omega.{arith}
 use Rattle.assembly.proofs.start_len.Statement.{statement}
 use Rattle.assembly.proofs.start_len.Tie as tie

@@ -1,4 +1,4 @@
--- The second number, or the word in its place.
+-- `counted` reads the second number, or answers the word in its place.
 use mathlib.Core.Path.{ap, _∙_}
 use native.Mathlib.Omega.{arith}
 use Rattle.line.specs.Number.{number}
@@ -19,7 +19,9 @@ of-requires c κs = search needs
 returns : tie.Need-returns
 returns c =
     let b = c .before in
-    bad-count _ _ (b .before .before .next .ensures .0) (b .of .ensures ∙ ap number (b .before .word-bytes .ensures)) _ (c .if1 .taken)
+    let word = b .before .before .next .ensures .0 in
+    let read = b .of .ensures ∙ ap number (b .before .word-bytes .ensures) in
+    bad-count _ _ word read _ (c .if1 .taken)
 
 request-requires : tie.Need-request-requires
 request-requires c κs = search needs
@@ -27,7 +29,9 @@ request-requires c κs = search needs
 returns-2 : tie.Need-returns-2
 returns-2 c =
     let b = c .before .before in
-    c .request .ensures ∙ a-count _ _ (b .before .before .next .ensures .0) (b .of .ensures ∙ ap number (b .before .word-bytes .ensures)) _ (omega arith)
+    let word = b .before .before .next .ensures .0 in
+    let read = b .of .ensures ∙ ap number (b .before .word-bytes .ensures) in
+    c .request .ensures ∙ a-count _ _ word read _ (omega arith)
 
 pub counted-spec : {M : Type 1} → statement M
 counted-spec =

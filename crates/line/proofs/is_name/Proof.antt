@@ -1,4 +1,4 @@
--- One of the six names compared.
+-- `is_name` compares a word with one of the six names.
 use mathlib.Core.Path.{_≡_}
 use native.Mathlib.Omega.{arith}
 use borrow.Author.Needs.{needs}
@@ -65,7 +65,9 @@ returns-5 c = rw (c .before .before .match .keys5) (c .same5 .ensures)
 
 returns-6 : tie.Need-returns-6
 unfolding bytes names
-returns-6 c = let counted : c .before .before .before .before .args .operation ≡ 5 = omega arith in rw counted (c .same6 .ensures)
+returns-6 c =
+    let counted : c .before .before .before .before .args .operation ≡ 5 = omega arith in
+    rw counted (c .same6 .ensures)
 
 pub is-name-spec : {M : Type 1} → statement M
 is-name-spec =

@@ -1,4 +1,4 @@
--- The first name that a word has.
+-- `operation_of` finds the first name that a word has.
 use Prim.Native.Nat.{_-_, _≤_}
 use mathlib.Core.Path.{_≡_, refl, sym, _∙_}
 use mathlib.Core.List.{[]}

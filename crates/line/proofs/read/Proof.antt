@@ -1,4 +1,4 @@
--- A line without its carriage return.
+-- `read` reads a line without its carriage return.
 use mathlib.Core.Path.{_∙_}
 use native.Mathlib.Nat.{sub-zero}
 use borrow.Author.Needs.{needs}

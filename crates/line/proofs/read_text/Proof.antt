@@ -1,4 +1,4 @@
--- A line that is too long, or what stands before its comment.
+-- `read_text` answers that a line is too long, or what stands before its comment.
 use mathlib.Core.Path.{_∙_}
 use Rattle.line.proofs.Reading.{long-text, short-text}
 use borrow.Author.Needs.{needs}

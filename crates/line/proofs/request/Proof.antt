@@ -1,4 +1,4 @@
--- A request, or the word that is left.
+-- `request` answers a request, or the word that is left.
 use Rattle.line.proofs.Reading.{word-left, none-left}
 use borrow.Author.Needs.{needs}
 use Rattle.line.proofs.request.Statement.{statement}

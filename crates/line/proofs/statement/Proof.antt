@@ -1,4 +1,4 @@
--- A text without a comment: nothing, an operation and its numbers, or the word in its place.
+-- `statement` answers nothing, an operation and its numbers, or the word in its place.
 use mathlib.Core.Path.{ap, _∙_}
 use Rattle.line.specs.Line.{operationOf}
 use Rattle.line.proofs.Reading.{no-word, no-operation, an-operation}
@@ -21,16 +21,20 @@ operation-of-requires c κs = search needs
 returns-2 : tie.Need-returns-2
 returns-2 c =
     let b = c .before in
-    no-operation _ (b .before .before .before .before .next .ensures .0) (b .before .before .if1 .left) (b .operation-of .ensures ∙ ap operationOf (b .before .word-bytes .ensures)) (c .if2 .taken)
+    let word = b .before .before .before .before .next .ensures .0 in
+    let named = b .operation-of .ensures ∙ ap operationOf (b .before .word-bytes .ensures) in
+    no-operation _ word (b .before .before .if1 .left) named (c .if2 .taken)
 
-numbers-requires : tie.Need-numbers-requires
-numbers-requires c κs = search needs
+operands-requires : tie.Need-operands-requires
+operands-requires c κs = search needs
 
 returns-3 : tie.Need-returns-3
 returns-3 c =
     let b = c .before .before in
-    c .numbers .ensures
-    ∙ an-operation _ (b .before .before .before .before .next .ensures .0) (b .before .before .if1 .left) (b .operation-of .ensures ∙ ap operationOf (b .before .word-bytes .ensures)) (c .before .if2 .left)
+    let word = b .before .before .before .before .next .ensures .0 in
+    let named = b .operation-of .ensures ∙ ap operationOf (b .before .word-bytes .ensures) in
+    c .operands .ensures
+    ∙ an-operation _ word (b .before .before .if1 .left) named (c .before .if2 .left)
 
 pub statement-spec : {M : Type 1} → statement M
 statement-spec =
@@ -41,5 +45,5 @@ statement-spec =
     word-bytes-requires
     operation-of-requires
     returns-2
-    numbers-requires
+    operands-requires
     returns-3)

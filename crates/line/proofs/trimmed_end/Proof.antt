@@ -1,4 +1,4 @@
--- The last byte of a line tells whether it is part of it.
+-- `trimmed_end` leaves out a last byte that is a carriage return.
 use native.Mathlib.Omega.{arith}
 use borrow.Author.Needs.{needs}
 use Rattle.line.proofs.Reading.{no-byte, return-last, other-last}

@@ -1,4 +1,4 @@
--- A text is put at its place.
+-- `put` writes a text at its place.
 use Prim.Native.Nat.{_+_, _-_}
 use mathlib.Core.Path.{_≡_, refl}
 use native.Mathlib.Omega.{arith}
@@ -33,7 +33,8 @@ returns c =
     let n = length (a .text .now) in
     let part = midOf (a .at) (a .at + n - a .at) (a .out .now) in
     let room : length part ≡ n = simp (length-take, length-drop) (omega arith) in
-    (refl, text-put (a .out .now) (a .text .now) part (a .at) (a .at + n - a .at) (c .before .before .copy .ensures .1) refl room (omega arith))
+    let copied = c .before .before .copy .ensures .1 in
+    (refl, text-put (a .out .now) (a .text .now) part (a .at) (a .at + n - a .at) copied refl room (omega arith))
 
 pub put-spec : {M : Type 1} → statement M
 put-spec =

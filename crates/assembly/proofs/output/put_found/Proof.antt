@@ -1,4 +1,4 @@
--- A word, or that the line has ended.
+-- `put_found` writes a word, or that the line has ended.
 use native.Mathlib.Omega.{arith}
 use Rattle.line.specs.Text.{bytes}
 use Rattle.assembly.proofs.Putting.{found-none, found-word}

@@ -1,4 +1,4 @@
--- What is said of each kind of line.
+-- `put_message` writes what is said of each kind of line.
 use native.Mathlib.Omega.{arith}
 use Rattle.line.specs.Text.{bytes}
 use Rattle.assembly.specs.Message.{messageRoom, messageOf}
@@ -54,21 +54,27 @@ same-length c = search needs
 
 returns : tie.Need-returns
 unfolding bytes messageOf
-returns c = rw (c .before .before .before .before .before .before .read .given .1) ((c .before .before .say-found .ensures .0, c .before .before .say-found .ensures .1 .0), c .before .before .say-found .ensures .1 .1)
+returns c =
+    let e = c .before .before .say-found .ensures in
+    rw (c .before .before .before .before .before .before .read .given .1) ((e .0, e .1 .0), e .1 .1)
 
 same-length-2 : tie.Need-same-length-2
 same-length-2 c = search needs
 
 returns-2 : tie.Need-returns-2
 unfolding bytes messageOf
-returns-2 c = rw (c .before .before .before .before .before .before .read2 .given .1) ((c .before .before .say-found2 .ensures .0, c .before .before .say-found2 .ensures .1 .0), c .before .before .say-found2 .ensures .1 .1)
+returns-2 c =
+    let e = c .before .before .say-found2 .ensures in
+    rw (c .before .before .before .before .before .before .read2 .given .1) ((e .0, e .1 .0), e .1 .1)
 
 same-length-3 : tie.Need-same-length-3
 same-length-3 c = search needs
 
 returns-3 : tie.Need-returns-3
 unfolding bytes messageOf
-returns-3 c = rw (c .before .before .before .before .before .before .read3 .given .1) ((c .before .before .say-found3 .ensures .0, c .before .before .say-found3 .ensures .1 .0), c .before .before .say-found3 .ensures .1 .1)
+returns-3 c =
+    let e = c .before .before .say-found3 .ensures in
+    rw (c .before .before .before .before .before .before .read3 .given .1) ((e .0, e .1 .0), e .1 .1)
 
 same-length-4 : tie.Need-same-length-4
 same-length-4 c = search needs
@@ -81,11 +87,15 @@ returns-4 c =
 
 returns-5 : tie.Need-returns-5
 unfolding messageOf
-returns-5 c = rw (c .enum-told2 .given .1) (nothing-written (c .before .before .before .before .args .out .now) (c .before .before .before .before .args .at) messageRoom)
+returns-5 c =
+    let a = c .before .before .before .before .args in
+    rw (c .enum-told2 .given .1) (nothing-written (a .out .now) (a .at) messageRoom)
 
 returns-6 : tie.Need-returns-6
 unfolding messageOf
-returns-6 c = rw (c .enum-told3 .given .1) (nothing-written (c .before .before .before .before .args .out .now) (c .before .before .before .before .args .at) messageRoom)
+returns-6 c =
+    let a = c .before .before .before .before .args in
+    rw (c .enum-told3 .given .1) (nothing-written (a .out .now) (a .at) messageRoom)
 
 pub put-message-spec : {M : Type 1} → statement M
 put-message-spec =

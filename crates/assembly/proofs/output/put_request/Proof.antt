@@ -1,4 +1,4 @@
--- The bytes of a request, or nothing.
+-- `put_request` writes the bytes of a request, or nothing.
 use native.Mathlib.Omega.{arith}
 use Rattle.request.specs.Parse.{requestSize}
 use Rattle.line.specs.Line.{requestOf}
@@ -45,23 +45,33 @@ returns c =
 
 returns-2 : tie.Need-returns-2
 unfolding requestOf
-returns-2 c = rw (c .enum-told .given .1) (nothing-written (c .before .before .before .args .out .now) (c .before .before .before .args .at) requestSize)
+returns-2 c =
+    let a = c .before .before .before .args in
+    rw (c .enum-told .given .1) (nothing-written (a .out .now) (a .at) requestSize)
 
 returns-3 : tie.Need-returns-3
 unfolding requestOf
-returns-3 c = rw (c .enum-told2 .given .1) (nothing-written (c .before .before .before .args .out .now) (c .before .before .before .args .at) requestSize)
+returns-3 c =
+    let a = c .before .before .before .args in
+    rw (c .enum-told2 .given .1) (nothing-written (a .out .now) (a .at) requestSize)
 
 returns-4 : tie.Need-returns-4
 unfolding requestOf
-returns-4 c = rw (c .enum-told3 .given .1) (nothing-written (c .before .before .before .args .out .now) (c .before .before .before .args .at) requestSize)
+returns-4 c =
+    let a = c .before .before .before .args in
+    rw (c .enum-told3 .given .1) (nothing-written (a .out .now) (a .at) requestSize)
 
 returns-5 : tie.Need-returns-5
 unfolding requestOf
-returns-5 c = rw (c .enum-told4 .given .1) (nothing-written (c .before .before .before .args .out .now) (c .before .before .before .args .at) requestSize)
+returns-5 c =
+    let a = c .before .before .before .args in
+    rw (c .enum-told4 .given .1) (nothing-written (a .out .now) (a .at) requestSize)
 
 returns-6 : tie.Need-returns-6
 unfolding requestOf
-returns-6 c = rw (c .enum-told5 .given .1) (nothing-written (c .before .before .before .args .out .now) (c .before .before .before .args .at) requestSize)
+returns-6 c =
+    let a = c .before .before .before .args in
+    rw (c .enum-told5 .given .1) (nothing-written (a .out .now) (a .at) requestSize)
 
 pub put-request-spec : {M : Type 1} → statement M
 put-request-spec =

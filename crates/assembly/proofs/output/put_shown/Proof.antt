@@ -1,4 +1,4 @@
--- The bytes of a text, shown one by one.
+-- `put_shown` writes the bytes of a text as they are shown, one by one.
 use Prim.Native.Nat.{_-_, _≤_}
 use native.Mathlib.Omega.{arith}
 use lib.ListN.{length}

@@ -1,4 +1,4 @@
--- A word between quotes, or its start and dots after them.
+-- `put_word` writes a word between quotes, or its start and dots after them.
 use mathlib.Core.List.{map}
 use native.Mathlib.Omega.{arith}
 use lib.ListN.{take, length-map, length-take}
@@ -33,10 +33,12 @@ returns c =
     let b = c .before .before .before .before .before .before .before .before .before in
     let a = b .before .before .before .before .before .before .before .before .args in
     let g = c .before .before .before .before .before .before .before .put-shown in
+    let f = b .before .before .before .put .ensures in
+    let h = c .before .before .put2 .ensures in
     let size = length-map (a .word .now) shownByte in
     let p =
-    three-put (a .out .now) (bytes "\"") (map shownByte (a .word .now)) (a .at) _ (b .before .before .before .put .ensures .1) (b .before .before .before .put .ensures .0)
-    (bytes "\"\n") _ (omega arith) (g .ensures .1) (omega arith) (c .before .before .put2 .ensures .1) (c .before .before .put2 .ensures .0) in
+    three-put (a .out .now) (bytes "\"") (map shownByte (a .word .now)) (a .at) _ (f .1) (f .0)
+    (bytes "\"\n") _ (omega arith) (g .ensures .1) (omega arith) (h .1) (h .0) in
     rw (shown-whole (a .word .now) (b .if1 .taken)) ((p .0, omega arith), p .1)
 
 sub-put-shown : tie.Need-sub-put-shown
@@ -66,12 +68,14 @@ returns-2 c =
     let g = c .before .before .before .before .before .before .before in
     let b = g .before .before .before in
     let a = b .before .before .before .before .before .before .before .before .args in
+    let f = b .before .before .before .put .ensures in
+    let h = c .before .before .put3 .ensures in
     let start = take shownMost (a .word .now) in
     let size = length-map start shownByte in
     let size' = length-take shownMost (a .word .now) in
     let p =
-    three-put (a .out .now) (bytes "\"") (map shownByte start) (a .at) _ (b .before .before .before .put .ensures .1) (b .before .before .before .put .ensures .0)
-    (bytes "\"...\n") _ (omega arith) (g .put-shown2 .ensures .1) (omega arith) (c .before .before .put3 .ensures .1) (c .before .before .put3 .ensures .0) in
+    three-put (a .out .now) (bytes "\"") (map shownByte start) (a .at) _ (f .1) (f .0)
+    (bytes "\"...\n") _ (omega arith) (g .put-shown2 .ensures .1) (omega arith) (h .1) (h .0) in
     rw (shown-start (a .word .now) (omega arith)) ((p .0, omega arith), p .1)
 
 pub put-word-spec : {M : Type 1} → statement M

@@ -1,4 +1,4 @@
--- What was expected, and after it what is found.
+-- `say_found` writes what was expected, and after it what is found.
 use native.Mathlib.Omega.{arith}
 use Rattle.line.specs.Text.{wordAt}
 use Rattle.assembly.specs.Message.{said, found}
@@ -26,7 +26,9 @@ returns c =
     let e = c .before .before .before .before .word-bytes .ensures in
     let word = found (wordAt (a .line .now) (a .word)) in
     let f = rw e at (c .before .before .put-found .ensures) in
-    let p = two-put (a .out .now) (said (a .number) (a .expected .now)) word (a .at) _ (b .say .ensures .1) (b .say .ensures .0 .0) (omega arith) (f .1) (f .0 .0) in
+    let s = b .say .ensures in
+    let text = said (a .number) (a .expected .now) in
+    let p = two-put (a .out .now) text word (a .at) _ (s .1) (s .0 .0) (omega arith) (f .1) (f .0 .0) in
     rw (said-append (a .number) (a .expected .now) word) (p .0, (omega arith, p .1))
 
 pub say-found-spec : {M : Type 1} → statement M

@@ -1,4 +1,4 @@
--- Printable bytes are those between two others.
+-- `shown_byte` keeps the bytes between two others.
 use native.Mathlib.Omega.{arith}
 use Rattle.assembly.proofs.Putting.{low-byte, high-byte, plain-byte}
 use Rattle.assembly.proofs.output.shown_byte.Statement.{statement}

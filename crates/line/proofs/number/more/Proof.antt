@@ -1,4 +1,4 @@
--- One more digit.
+-- `more` puts one more digit to a number.
 use native.Mathlib.Omega.{arith}
 use borrow.Author.Needs.{needs}
 use Rattle.line.proofs.Digits.{more-below, more-above, more-fits, more-full}

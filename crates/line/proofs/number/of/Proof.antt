@@ -1,15 +1,15 @@
--- All digits of a word.
+-- `number::of` reads all digits of a word.
 use Prim.Native.Nat.{_-_, _≤_}
 use mathlib.Core.Path.{_≡_, refl}
 use native.Mathlib.Omega.{arith}
 use lib.ListN.{length, drop}
-use Rattle.line.specs.Number.{limit, digits}
+use Rattle.line.specs.Number.{limit, withDigits}
 use Rattle.line.proofs.Digits.{number-none, digits-more, digits-all}
 use Rattle.line.proofs.number.of.Statement.{statement}
 use Rattle.line.proofs.number.of.Tie as tie
 
 abbrev Inv-loop : tie.InvT-loop
-Inv-loop word n₀ i₀ n i = (i ≤ length word) × (n ≤ limit) × (digits 0 word ≡ digits n (drop i word))
+Inv-loop word n₀ i₀ n i = (i ≤ length word) × (n ≤ limit) × (withDigits 0 word ≡ withDigits n (drop i word))
 
 abbrev μ-loop : tie.MeasureT-loop
 μ-loop word n₀ i₀ n i = length word - i

@@ -1,4 +1,4 @@
--- Blanks told by two comparisons.
+-- `is_blank` tells a blank by two comparisons.
 use borrow.Author.Tests.{eq-eqb, ne-eqb}
 use Rattle.line.specs.Text.{isBlank}
 use Rattle.line.proofs.scan.is_blank.Statement.{statement}

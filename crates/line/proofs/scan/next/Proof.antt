@@ -1,4 +1,4 @@
--- Where a word starts and ends.
+-- `next` finds where a word starts and ends.
 use native.Mathlib.Omega.{arith}
 use Rattle.line.specs.Text.{nextWord}
 use borrow.Author.Needs.{needs}

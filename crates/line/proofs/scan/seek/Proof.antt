@@ -1,4 +1,4 @@
--- The first blank, or the first byte that is none.
+-- `seek` finds the first blank, or the first byte that is none.
 use Prim.Native.Nat.{_-_, _≤_}
 use mathlib.Core.Path.{_≡_, refl, sym, _∙_}
 use native.Mathlib.Omega.{arith}
@@ -25,7 +25,8 @@ is-blank-requires c κs = tt
 
 returns : tie.Need-returns Inv-loop μ-loop
 returns c =
-    (sym (c .before .before .before .before .loop .inv .2 ∙ first-found _ (omega arith) (rw (sym (c .before .is-blank .ensures)) (c .if1 .taken))), omega arith)
+    let l = c .before .before .before .before .loop in
+    (sym (l .inv .2 ∙ first-found _ (omega arith) (rw (sym (c .before .is-blank .ensures)) (c .if1 .taken))), omega arith)
 
 add-at : tie.Need-add-at Inv-loop μ-loop
 add-at c = omega arith
@@ -35,7 +36,9 @@ loop-less c = omega arith
 
 loop-again : tie.Need-loop-again Inv-loop μ-loop
 loop-again c =
-    (omega arith, omega arith, c .before .before .before .before .loop .inv .2 ∙ first-past _ (omega arith) (rw (sym (c .before .is-blank .ensures)) (c .if1 .left)))
+    let l = c .before .before .before .before .loop in
+    let told = sym (c .before .is-blank .ensures) in
+    (omega arith, omega arith, l .inv .2 ∙ first-past _ (omega arith) (rw told (c .if1 .left)))
 
 returns-2 : tie.Need-returns-2 Inv-loop μ-loop
 returns-2 c = (sym (c .before .loop .inv .2 ∙ first-none _ (omega arith)), omega arith)

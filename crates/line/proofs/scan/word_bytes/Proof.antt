@@ -1,4 +1,4 @@
--- A word is cut where the text ends.
+-- `word_bytes` cuts a word where the text ends.
 use Rattle.line.proofs.Reading.{word-within}
 use borrow.Author.Needs.{needs}
 use Rattle.line.proofs.scan.word_bytes.Statement.{statement}

@@ -1,11 +1,11 @@
--- One number or two, or the word in their place.
+-- `operands` reads one number or two, or answers the word in their place.
 use mathlib.Core.Path.{ap, _∙_}
 use native.Mathlib.Omega.{arith}
 use Rattle.line.specs.Number.{number}
 use Rattle.line.proofs.Reading.{bad-argument, two-numbers, one-number}
 use borrow.Author.Needs.{needs}
-use Rattle.line.proofs.numbers.Statement.{statement}
-use Rattle.line.proofs.numbers.Tie as tie
+use Rattle.line.proofs.operands.Statement.{statement}
+use Rattle.line.proofs.operands.Tie as tie
 
 next-requires : tie.Need-next-requires
 next-requires c κs = search needs
@@ -19,7 +19,9 @@ of-requires c κs = search needs
 returns : tie.Need-returns
 returns c =
     let b = c .before in
-    bad-argument _ _ (b .before .before .next .ensures .0) (b .of .ensures ∙ ap number (b .before .word-bytes .ensures)) _ (c .if1 .taken)
+    let word = b .before .before .next .ensures .0 in
+    let read = b .of .ensures ∙ ap number (b .before .word-bytes .ensures) in
+    bad-argument _ _ word read _ (c .if1 .taken)
 
 counted-requires : tie.Need-counted-requires
 counted-requires c κs = search needs
@@ -27,8 +29,10 @@ counted-requires c κs = search needs
 returns-2 : tie.Need-returns-2
 returns-2 c =
     let b = c .before .before .before in
+    let word = b .before .before .next .ensures .0 in
+    let read = b .of .ensures ∙ ap number (b .before .word-bytes .ensures) in
     c .counted .ensures
-    ∙ two-numbers _ _ (b .before .before .next .ensures .0) (b .of .ensures ∙ ap number (b .before .word-bytes .ensures)) _ (omega arith) (c .before .if2 .taken)
+    ∙ two-numbers _ _ word read _ (omega arith) (c .before .if2 .taken)
 
 request-requires : tie.Need-request-requires
 request-requires c κs = search needs
@@ -36,11 +40,13 @@ request-requires c κs = search needs
 returns-3 : tie.Need-returns-3
 returns-3 c =
     let b = c .before .before .before in
+    let word = b .before .before .next .ensures .0 in
+    let read = b .of .ensures ∙ ap number (b .before .word-bytes .ensures) in
     c .request .ensures
-    ∙ one-number _ _ (b .before .before .next .ensures .0) (b .of .ensures ∙ ap number (b .before .word-bytes .ensures)) _ (omega arith) (c .before .if2 .left)
+    ∙ one-number _ _ word read _ (omega arith) (c .before .if2 .left)
 
-pub numbers-spec : {M : Type 1} → statement M
-numbers-spec =
+pub operands-spec : {M : Type 1} → statement M
+operands-spec =
     tie.close
     (tie.spec
     next-requires
