@@ -3,6 +3,7 @@ ghost use mathlib.Core.Path.{_≡_};
 ghost use Prim.Native.Nat.{_+_, _<_, _≤_};
 ghost use lib.ListN.{length};
 ghost use Rattle.writing.specs.Overwrite.{overwrite};
+ghost use Rattle.request.specs.Parse.{requestSize};
 ghost use Rattle.rules.specs.Call.{State, stateOf};
 ghost use Rattle.replay.specs.Batch.{Batch, batchOf};
 ghost use Rattle.replay.specs.Pieces.{readyLength, ready, rest};
@@ -16,7 +17,7 @@ pub struct Served {
 }
 
 fn ready_len(len: usize, ended: bool) -> usize
-    ensures { λ r. ⌜ (r ≡ readyLength ended len) × (r ≤ len) × (len < r + 16) ⌝ }
+    ensures { λ r. ⌜ (r ≡ readyLength ended len) × (r ≤ len) × (len < r + requestSize) ⌝ }
 {
     if ended {
         return len;
@@ -41,7 +42,7 @@ pub fn serve(
         × (stateOf (now (heap .exit)) (now (metadata .exit)) ≡ b .state) ⌝ }
     ensures { λ r. ⌜ r .kept ≡ length (rest ended (now (input .entry))) ⌝ }
     ensures { λ _. ⌜ now (input .exit) ≡ overwrite (now (input .entry)) 0 (rest ended (now (input .entry))) ⌝ }
-    ensures { λ r. ⌜ (r .written ≤ length (now (out .exit))) × (r .kept < 16) ⌝ }
+    ensures { λ r. ⌜ (r .written ≤ length (now (out .exit))) × (r .kept < requestSize) ⌝ }
 {
     let end = ready_len(input.len(), ended);
     let done = crate::batch(heap, metadata, &input[0..end], number, out);

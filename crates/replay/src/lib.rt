@@ -6,6 +6,7 @@ ghost use Prim.Native.Nat.{suc, _+_, _-_, _*_, _^_, _<_, _≤_, min};
 ghost use lib.ListN.{length};
 ghost use Rattle.decimal.specs.Decimal.{width};
 ghost use Rattle.writing.specs.Overwrite.{overwrite};
+ghost use Rattle.request.specs.Parse.{requestSize};
 ghost use Rattle.rules.specs.Call.{State, stateOf};
 ghost use Rattle.replay.specs.Line.{field, lineOf, lineRoom};
 ghost use Rattle.replay.specs.Batch.{Batch, accepted, batchOf, stepOf};
@@ -80,7 +81,7 @@ fn accepted(input: &[u8], number: u64, room: usize) -> usize
 // Where the request ends that starts at a place: the last may be shorter.
 fn request_end(at: usize, len: usize) -> usize
     requires { ⌜ at ≤ len ⌝ }
-    ensures { λ r. ⌜ r ≡ at + min 16 (len - at) ⌝ }
+    ensures { λ r. ⌜ r ≡ at + min requestSize (len - at) ⌝ }
 {
     if len - at < REQUEST {
         len

@@ -1,13 +1,22 @@
 -- `serve` serves what is ready and keeps the rest.
 use borrow.Author.Needs.{needs}
-use Prim.Native.Nat.{_<_}
+use Prim.Native.Nat.{ℕ, _+_, _<_}
+use mathlib.Core.Path.{_≡_}
+use mathlib.Core.List.{List}
 use native.Mathlib.Nat.{sub-zero}
 use native.Mathlib.Omega.{arith}
-use lib.ListN.{length, drop, length-drop}
+use lib.ListN.{length, take, drop, length-drop}
 use lib.Seq.{take-all}
+use Rattle.writing.specs.Overwrite.{overwrite}
 use Rattle.request.specs.Parse.{requestSize}
 use Rattle.replay.proofs.gather.serve.Statement.{statement}
 use Rattle.replay.proofs.gather.serve.Tie as tie
+
+-- fewer bytes than a request has are moved whole
+all-moved : (xs : List ℕ) (from : ℕ) {r : ℕ} {after : List ℕ} → length xs < from + requestSize
+    → (r ≡ length (take requestSize (drop from xs))) × (after ≡ overwrite xs 0 (take requestSize (drop from xs)))
+    → (r ≡ length (drop from xs)) × (after ≡ overwrite xs 0 (drop from xs))
+all-moved xs from h p = rw (take-all requestSize (drop from xs) (rw length-drop (omega arith))) at p
 
 ready-len-requires : tie.Need-ready-len-requires
 ready-len-requires c κs = search needs
@@ -46,9 +55,9 @@ returns c =
     let measured = served .before .before .before .before .before .before in
     let end = measured .ready-len in
     let input = measured .before .before .before .before .before .args .input .now in
-    let few : length (drop (end .result) input) < requestSize = rw length-drop (omega arith) in
     let lines = rw (sub-zero (end .result), end .ensures .0) at (served .batch .ensures) in
-    let whole = rw (take-all requestSize (drop (end .result) input) (omega arith)) at (moved .shift .ensures) in
+    let few = length-drop (end .result) input in
+    let whole = all-moved input (end .result) (omega arith) (moved .shift .ensures) in
     let kept = rw (end .ensures .0) at whole in
     (lines .0, (kept .0, (kept .1, (lines .1, omega (arith, whole .0)))))
 
