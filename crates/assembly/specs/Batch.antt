@@ -15,11 +15,13 @@ newline = 10
 -- the lines of a text that have their end, and what comes after the last; the first line has some bytes already
 unfoldable pub linesFrom : List ℕ → List ℕ → List (List ℕ)
 linesFrom line [] = []
-linesFrom line (b ∷ text) = elim (eqb b newline) [ true ↦ line ∷ linesFrom [] text | false ↦ linesFrom (line ++ (b ∷ [])) text ]
+linesFrom line (b ∷ text) =
+    elim (eqb b newline) [ true ↦ line ∷ linesFrom [] text | false ↦ linesFrom (line ++ (b ∷ [])) text ]
 
 unfoldable pub restFrom : List ℕ → List ℕ → List ℕ
 restFrom line [] = line
-restFrom line (b ∷ text) = elim (eqb b newline) [ true ↦ restFrom [] text | false ↦ restFrom (line ++ (b ∷ [])) text ]
+restFrom line (b ∷ text) =
+    elim (eqb b newline) [ true ↦ restFrom [] text | false ↦ restFrom (line ++ (b ∷ [])) text ]
 
 abbrev pub lines : List ℕ → List (List ℕ)
 lines text = linesFrom [] text

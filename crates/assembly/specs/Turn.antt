@@ -35,9 +35,10 @@ unfoldable pub outcome : List ℕ → ℕ → ℕ → ℕ → List ℕ → List 
 outcome input kept got number out errors =
     let text : List ℕ = admitted (textIn input kept got) number (length out) (length errors) in
     let done : Done = doneOf number text in
+    let start : List ℕ = startOf text in
     record {
-      turn = record { kept = length (startOf text); next = done .next; requests = done .requests; messages = done .messages };
-      input = overwrite (gathered input kept got) 0 (startOf text);
+      turn = record { kept = length start; next = done .next; requests = done .requests; messages = done .messages };
+      input = overwrite (gathered input kept got) 0 start;
       out = overwrite out 0 (requestsIn text);
       errors = overwrite errors 0 (messagesIn number text);
     }
