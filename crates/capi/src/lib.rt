@@ -51,7 +51,8 @@ pub extern "C" fn poheldu_serve(
     source: &[u8],
 ) -> PohelduAnswer
     ensures { λ r.
-        let called = call (now (heap .entry)) (now (metadata .entry)) (now (request .entry)) (lent (now (source .entry))) in
+        let beside = lent (now (source .entry)) in
+        let called = call (now (heap .entry)) (now (metadata .entry)) (now (request .entry)) beside in
         ⌜ (replyIn r ≡ called .answer) × (now (metadata .exit) ≡ called .metadata)
         × (now (heap .exit) ≡ called .heap) ⌝ }
 {

@@ -1,7 +1,7 @@
 -- What copies write in a given room.
 use Prim.Native.Nat.{ℕ, zero, suc, min, _+_, _-_, _<_, _≤_}
 use mathlib.Core.Path.{_≡_, refl, sym, ap, _∙_}
-use mathlib.Core.List.{List, [], _∷_, _++_, append-assoc, append-nil}
+use mathlib.Core.List.{List, _∷_, _++_, append-assoc, append-nil}
 use native.Mathlib.Nat.{sub-zero, sub-self}
 use native.Mathlib.Numerals.{add-one}
 use native.Mathlib.Decide.{decLe}

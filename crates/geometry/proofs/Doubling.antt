@@ -1,7 +1,7 @@
 -- The metadata of a heap with regions twice as long: one bitmap more in front, and all others a class later.
-use Prim.Native.Nat.{ℕ, zero, suc, _+_, _*_, _/_, _^_, _<_}
-use mathlib.Core.Path.{_≡_, refl, ap, _∙_}
-use native.Mathlib.Nat.{pow-suc, mul-comm, mul-assoc, mul-div-mul-left, zero-div, zero-lt-suc}
+use Prim.Native.Nat.{ℕ, zero, suc, _+_, _*_, _^_, _<_}
+use mathlib.Core.Path.{_≡_, refl}
+use native.Mathlib.Nat.{pow-suc, mul-comm, mul-div-mul-left, zero-div, zero-lt-suc}
 use native.Mathlib.Numerals.{add-one}
 use native.Mathlib.Omega.{arith}
 use Rattle.geometry.specs.declared.Layout.{Layout}

@@ -12,8 +12,7 @@ use borrow.Author.Tests.{lt-ltb, le-ltb, le-leb, lt-leb, eq-eqb, ne-eqb, eqb-tru
 use Rattle.search.specs.First.{first}
 use Rattle.search.proofs.First.{first-found, first-past, first-none, first-range, first-passes}
 use Rattle.geometry.specs.declared.Layout.{Layout}
-use Rattle.geometry.specs.declared.Plan.{Plan}
-use Rattle.geometry.specs.Layout.{classes, regionOf, layoutOf, slotSize, classOf, header, bitmapAt, bitmapLength, metadataLength, planOf}
+use Rattle.geometry.specs.Layout.{classes, regionOf, layoutOf, slotSize, classOf, header, bitmapAt, bitmapLength}
 
 -- ---- region lengths
 
@@ -46,14 +45,6 @@ laid n = go (ltb e 21) refl
         let h : e < 21 = ltb-true e 21 q in
         record { small = pow-mono {i = e} {j = 20} (omega arith); whole = λ some. eqb-true n (classes * 2 ^ e) (first-passes (isHeap n) 10 11 h) }
     go false q = record { small = omega arith; whole = λ some. absurd (some refl) }
-
--- what a plan says
-module _ (n : ℕ) {p : Plan} (e : p ≡ planOf n) where
-  pub plan-layout : p .layout ≡ layoutOf n
-  plan-layout = rw e
-
-  pub plan-metadata : p .metadata ≡ metadataLength (p .layout)
-  plan-metadata = rw e
 
 -- ---- slots
 

@@ -88,7 +88,8 @@ fn act(
 // Serves a request of any bytes on any heap and any metadata.
 pub fn serve(heap: &mut [u8], metadata: &mut [u8], request: &[u8], source: &[u8]) -> Answer
     ensures { λ r.
-        let called = call (now (heap .entry)) (now (metadata .entry)) (now (request .entry)) (lent (now (source .entry))) in
+        let beside = lent (now (source .entry)) in
+        let called = call (now (heap .entry)) (now (metadata .entry)) (now (request .entry)) beside in
         ⌜ (replyOf r ≡ called .answer) × (now (metadata .exit) ≡ called .metadata)
         × (now (heap .exit) ≡ called .heap) ⌝ }
 {

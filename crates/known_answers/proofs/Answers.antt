@@ -19,7 +19,7 @@ use Rattle.vote.specs.Decide.{tabulate, digits, leader, count, decide}
 use Rattle.alike.proofs.Equal.{alike-equal}
 use Rattle.known_answers.specs.Calls.{Row, row, numbers, opened, clear, outcomeOf, answerTo, after, voting}
 use Rattle.known_answers.specs.Table.{table, start, oneObject, copying, bytesVoted}
-use Rattle.known_answers.specs.Further.{further, lastSet, firstSet, halfFull, strayBits, onlySlotSet}
+use Rattle.known_answers.specs.Further.{further, lastSet, firstSet, atCapacity, strayBits, onlySlotSet}
 
 -- the two sides of each row are the same numbers
 allAlike : List Row → Bool
@@ -45,7 +45,7 @@ unfolding allAlike table start outcomeOf answerTo after oneObject numbers copyin
 computes = refl
 
 further-computes : allAlike further ≡ true
-unfolding allAlike further lastSet firstSet halfFull strayBits onlySlotSet opened clear outcomeOf answerTo after numbers voting row indexOf indexAfter first slotSize bitmapAt putByte countSet nextClear parse judge probe allocate free space remaining copy serve alike tabulate digits leader count decide
+unfolding allAlike further lastSet firstSet atCapacity strayBits onlySlotSet opened clear outcomeOf answerTo after numbers voting row indexOf indexAfter first slotSize bitmapAt putByte countSet nextClear parse judge probe allocate free space remaining copy serve alike tabulate digits leader count decide
 further-computes = refl
 
 -- each of the twelve worked examples holds of the definitions

@@ -17,8 +17,8 @@ unfoldable pub firstSet : List ℕ
 firstSet = set (clear 4_096 0 0) 128 0x0b
 
 -- one of the two slots of class 8 is set
-unfoldable pub halfFull : List ℕ
-halfFull = set (clear 4_096 0x9069 0x4650) 136 0x01
+unfoldable pub atCapacity : List ℕ
+atCapacity = set (clear 4_096 0x9069 0x4650) 136 0x01
 
 -- ---- regions of 1,024 bytes: class 5 has 4 slots (byte 39), class 7 has 1 (byte 41, heap from 7,168), class 8 none (heap from 8,192)
 
@@ -40,8 +40,8 @@ further =
     ∷ row (answerTo 4_096 firstSet (allocate 128)) (0 ∷ 16_640 ∷ [])
     ∷ row (after 4_096 firstSet (allocate 128)) (set (clear 4_096 0 0) 128 0x0f)
     -- refused at capacity, with the generator where it was
-    ∷ row (answerTo 4_096 halfFull (allocate 2_048)) (7 ∷ 0 ∷ [])
-    ∷ row (after 4_096 halfFull (allocate 2_048)) halfFull
+    ∷ row (answerTo 4_096 atCapacity (allocate 2_048)) (7 ∷ 0 ∷ [])
+    ∷ row (after 4_096 atCapacity (allocate 2_048)) atCapacity
     -- bits beyond the slots are not counted, and kept: the third draw takes slot 3, and a free clears slot 0
     ∷ row (answerTo 1_024 strayBits (allocate 256)) (0 ∷ 5_888 ∷ [])
     ∷ row (drop header (after 1_024 strayBits (allocate 256))) (drop header (set (clear 1_024 1 1) 39 0xf9))

@@ -1,9 +1,9 @@
 -- What each way through the arguments comes to.
 use Prim.Native.Nat.{ℕ, _-_}
-use mathlib.Core.Path.{_≡_, sym, _∙_}
+use mathlib.Core.Path.{_≡_}
 use mathlib.Core.Bool.{Bool, true, false}
 use mathlib.Core.List.{List}
-use borrow.Author.Tests.{eq-eqb, ne-eqb}
+use borrow.Author.Tests.{ne-eqb}
 use Rattle.alike.specs.Alike.{alike}
 use Rattle.alike.specs.Text.{bytes}
 use Rattle.program.specs.Asked.{choiceOf, askedOf}

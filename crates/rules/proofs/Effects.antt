@@ -1,5 +1,5 @@
 -- What a served allocation and a served free find in the metadata and leave there, slot by slot.
-use Prim.Native.Nat.{ℕ, suc, _+_, _*_, _/_, _≤_, _<_}
+use Prim.Native.Nat.{ℕ, suc, _*_, _/_, _≤_, _<_}
 use mathlib.Core.Path.{_≡_, ap, _∙_}
 use mathlib.Core.List.{List}
 use native.Mathlib.Nat.{zero-div}
@@ -10,7 +10,6 @@ use lib.Seq.{getD-take, getD-drop}
 use Rattle.mwc.specs.declared.Generator.{Generator}
 use Rattle.geometry.specs.declared.Layout.{Layout}
 use Rattle.geometry.specs.Layout.{classes, classOf, slots, slotStart, bitmapAt, bitmapLength, metadataLength}
-use Rattle.geometry.proofs.Geometry.{bitmap-after}
 use Rattle.geometry.proofs.Slots.{slots-class}
 use Rattle.bitmap.specs.Bitmap.{bit, setSlot, countSet}
 use Rattle.bitmap.proofs.Slot.{bit-past}

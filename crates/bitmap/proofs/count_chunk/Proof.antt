@@ -1,5 +1,5 @@
 -- `bitmap::count_chunk` meets its contract. The loop's invariant: `total` is the count of the bytes passed, at most eight for each.
-use mathlib.Core.Path.{_≡_, refl}
+use mathlib.Core.Path.{_≡_}
 use Prim.Native.Nat.{_≤_, _+_, _-_, _*_}
 use native.Mathlib.Nat.{add-zero, add-assoc}
 use native.Mathlib.Omega.{arith}

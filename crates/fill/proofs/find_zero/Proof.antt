@@ -1,5 +1,5 @@
 -- `fill::find_zero` meets its contract. The loop's invariant: no byte before `at` is zero.
-use Prim.Native.Nat.{ℕ, min, zero-le, _≤_, _+_, _-_, _<_}
+use Prim.Native.Nat.{min, zero-le, _≤_, _+_, _-_, _<_}
 use mathlib.Core.Path.{_≡_, _∙_}
 use native.Mathlib.Omega.{arith}
 use borrow.Author.Needs.{needs}

@@ -1,7 +1,7 @@
 -- `judge::lengths` meets its contract: the plan is that of the heap's length.
 use mathlib.Core.Path.{_≡_, sym}
 use borrow.Author.Needs.{needs}
-use Rattle.geometry.specs.Layout.{regionOf, planOf}
+use Rattle.geometry.specs.Layout.{regionOf}
 use Rattle.rules.proofs.Serving.{no-heap, other-length, right-lengths}
 use Rattle.judge.proofs.lengths.Statement.{statement}
 use Rattle.judge.proofs.lengths.Tie as tie

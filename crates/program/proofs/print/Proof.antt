@@ -1,6 +1,5 @@
 -- `print` meets its contract: what is empty is written.
 use borrow.Author.Needs.{needs}
-use mathlib.Core.Path.{_≡_}
 use Rattle.program.proofs.print.Statement.{statement}
 use Rattle.program.proofs.print.Tie as tie
 

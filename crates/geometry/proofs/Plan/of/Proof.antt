@@ -1,15 +1,11 @@
 -- `Plan::of` meets its contract. The loop's invariant: what is left of the search finds what the whole one finds, and the metadata's length is that of
 -- the regions reached.
 use Prim.Native.Nat.{ℕ, _+_, _-_, _*_, _^_, _≤_}
-use mathlib.Core.Path.{_≡_, refl, sym, ap, ap₂, _∙_}
-use native.Mathlib.Nat.{pow-suc, mul-comm}
-use native.Mathlib.Numerals.{add-one}
+use mathlib.Core.Path.{_≡_, refl, sym, ap, _∙_}
 use native.Mathlib.Omega.{arith}
-use borrow.Author.Needs.{needs}
 use Rattle.search.specs.First.{first}
-use Rattle.geometry.specs.declared.Layout.{Layout}
 use Rattle.geometry.specs.declared.Plan.{Plan}
-use Rattle.geometry.specs.Layout.{classes, header, bitmapLength, metadataLength}
+use Rattle.geometry.specs.Layout.{classes, header, metadataLength}
 use Rattle.geometry.proofs.Geometry.{isHeap, region-found, region-past, region-none}
 use Rattle.geometry.proofs.Doubling.{ofRegion, doubled-power, no-bitmaps}
 use Rattle.geometry.proofs.Plan.of.Statement.{statement}
