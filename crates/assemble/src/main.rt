@@ -2,6 +2,8 @@
 use libc::STDERR_FILENO;
 use program::DONE;
 use program::FAILED;
+use program::arguments;
+use program::arguments::Choice;
 ghost use mathlib.Core.Path.{_≡_};
 ghost use mathlib.Core.Logic.{_⊎_};
 ghost use Prim.Native.Nat.{_≤_};
@@ -61,21 +63,38 @@ fn assemble_input() -> u8
 }
 
 fn main() {
-    let task = program::start(
-        b"usage: assemble < LINES > REQUESTS\n\
-        \n\
-        Turns lines of text into requests of 16 bytes, as benchrun reads them.\n\
-        \n\
-        Input: lines of at most 255 bytes that end in LF or CR LF. A line has words with spaces or tabs around them:\n\
-        place SIZE, free OFFSET, measure OFFSET, copy OFFSET, text OFFSET or counted OFFSET COUNT, in decimal from 0\n\
-        to 4294967295. What comes after # is a comment; a line may be empty.\n\
-        Output: a request for each line that asks for one. Standard error: a message for each bad line.\n\
-        Exit status: 0 where all lines are good; 1 where a line is bad, and the good ones are written; 2 where an\n\
-        argument is unknown, the input cannot be read or an output cannot be written.\n",
-        b"assemble: standard output",
-        b"assemble: unknown argument; see --help\n",
+    let mut first = [0u8; 16];
+    let mut second = [0u8; 16];
+    let first_len = os::arg(1, &mut first);
+    let second_len = os::arg(2, &mut second);
+    let asked = arguments::read(
+        os::arg_count(),
+        &first[0..first_len],
+        &second[0..second_len],
     );
-    if task.works {
-        program::finish(task.launched, assemble_input());
-    }
+    let choice = asked.choice;
+    let status = match choice {
+        Choice::Run => assemble_input(),
+        Choice::Help => {
+            let shown = program::print(
+                b"usage: assemble < LINES > REQUESTS\n\
+                \n\
+                Turns lines of text into requests of 16 bytes, as benchrun reads them.\n\
+                \n\
+                Input: lines of at most 255 bytes that end in LF or CR LF. A line has words with spaces or tabs around them:\n\
+                place SIZE, free OFFSET, measure OFFSET, copy OFFSET, text OFFSET or counted OFFSET COUNT, in decimal from 0\n\
+                to 4294967295. What comes after # is a comment; a line may be empty.\n\
+                Output: a request for each line that asks for one. Standard error: a message for each bad line.\n\
+                Exit status: 0 where all lines are good; 1 where a line is bad, and the good ones are written; 2 where an\n\
+                argument is unknown, the input cannot be read or an output cannot be written.\n",
+                b"assemble: standard output",
+            );
+            if shown { DONE } else { FAILED }
+        }
+        Choice::Unknown => {
+            io::write_all(STDERR_FILENO, b"assemble: unknown argument; see --help\n");
+            FAILED
+        }
+    };
+    program::finish(asked.launched, status);
 }

@@ -1,6 +1,9 @@
 // Replays requests from standard input on a heap with regions of 4,096 bytes, opened with z = 1 and w = 1, and prints a line for each.
+use libc::STDERR_FILENO;
 use program::DONE;
 use program::FAILED;
+use program::arguments;
+use program::arguments::Choice;
 ghost use mathlib.Core.Path.{_≡_};
 ghost use mathlib.Core.Logic.{_⊎_};
 
@@ -44,21 +47,38 @@ fn serve_input() -> u8
 }
 
 fn main() {
-    let task = program::start(
-        b"usage: benchrun < REQUESTS\n\
-        \n\
-        Serves requests on a heap of 49152 bytes that was opened with z = 1 and w = 1.\n\
-        \n\
-        Input: requests of 16 bytes, served as they come. A request is four little-endian words: the operation\n\
-        (0 allocate, 1 free, 2 remaining size, 3 copy bytes, 4 copy string, 5 copy padded), its size or offset,\n\
-        the count of operation 5 and otherwise 0, and 0. A last part under 16 bytes is a malformed request.\n\
-        Output: a line for each request: its number from 1, the number of the refusal or 0, and the value.\n\
-        Exit status: 0 where the input was served to its end; 2 where an argument is unknown, the input cannot\n\
-        be read or the output cannot be written.\n",
-        b"benchrun: standard output",
-        b"benchrun: unknown argument; see --help\n",
+    let mut first = [0u8; 16];
+    let mut second = [0u8; 16];
+    let first_len = os::arg(1, &mut first);
+    let second_len = os::arg(2, &mut second);
+    let asked = arguments::read(
+        os::arg_count(),
+        &first[0..first_len],
+        &second[0..second_len],
     );
-    if task.works {
-        program::finish(task.launched, serve_input());
-    }
+    let choice = asked.choice;
+    let status = match choice {
+        Choice::Run => serve_input(),
+        Choice::Help => {
+            let shown = program::print(
+                b"usage: benchrun < REQUESTS\n\
+                \n\
+                Serves requests on a heap of 49152 bytes that was opened with z = 1 and w = 1.\n\
+                \n\
+                Input: requests of 16 bytes, served as they come. A request is four little-endian words: the operation\n\
+                (0 allocate, 1 free, 2 remaining size, 3 copy bytes, 4 copy string, 5 copy padded), its size or offset,\n\
+                the count of operation 5 and otherwise 0, and 0. A last part under 16 bytes is a malformed request.\n\
+                Output: a line for each request: its number from 1, the number of the refusal or 0, and the value.\n\
+                Exit status: 0 where the input was served to its end; 2 where an argument is unknown, the input cannot\n\
+                be read or the output cannot be written.\n",
+                b"benchrun: standard output",
+            );
+            if shown { DONE } else { FAILED }
+        }
+        Choice::Unknown => {
+            io::write_all(STDERR_FILENO, b"benchrun: unknown argument; see --help\n");
+            FAILED
+        }
+    };
+    program::finish(asked.launched, status);
 }

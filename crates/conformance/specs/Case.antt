@@ -2,21 +2,32 @@
 use Prim.Native.Nat.{ℕ, _*_, min}
 use mathlib.Core.List.{List}
 use Rattle.words.specs.Word.{wordAt}
+use Rattle.request.specs.Parse.{requestSize}
 use Rattle.geometry.specs.Layout.{layoutOf, metadataLength}
 use Rattle.rules.specs.Open.{setup}
 use Rattle.rules.specs.Call.{State, opening}
 use Rattle.conformance.specs.declared.Case.{Case}
 
--- the lengths are cut to what the program has room for
+-- room for the bytes of a heap and of its metadata, and for requests
+abbrev pub heapRoom : ℕ
+heapRoom = 98304
+
+abbrev pub metadataRoom : ℕ
+metadataRoom = 4096
+
+abbrev pub requestsRoom : ℕ
+requestsRoom = 1024
+
+-- the lengths are cut to what there is room for
 abbrev pub caseOf : List ℕ → Case
 caseOf header =
-    let heap : ℕ = min (wordAt header 0) 98304 in
+    let heap : ℕ = min (wordAt header 0) heapRoom in
     record {
       heap = heap;
-      metadata = min (metadataLength (layoutOf heap)) 4096;
+      metadata = min (metadataLength (layoutOf heap)) metadataRoom;
       z = wordAt header 4;
       w = wordAt header 8;
-      requests = 16 * min (wordAt header 12) 1024;
+      requests = requestSize * min (wordAt header 12) requestsRoom;
     }
 
 -- what the requests are served on: the heap as it was, and the metadata as the opening leaves it

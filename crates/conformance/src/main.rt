@@ -7,15 +7,25 @@ use geometry::Plan;
 use libc::STDIN_FILENO;
 use libc::STDOUT_FILENO;
 use numbers::least;
+use numbers::wide;
 ghost use mathlib.Core.Path.{_≡_};
-ghost use Prim.Native.Nat.{_+_, _≤_};
+ghost use Prim.Native.Nat.{_+_, _*_, _≤_, min};
 ghost use lib.ListN.{length};
 ghost use Rattle.answer.specs.Reply.{Reply};
+ghost use Rattle.words.specs.Word.{wordAt};
 ghost use Rattle.writing.specs.Overwrite.{overwrite};
+ghost use Rattle.request.specs.Parse.{requestSize};
 ghost use Rattle.rules.specs.Open.{setup};
 ghost use Rattle.rules.specs.Call.{State, stateOf, opening};
 ghost use Rattle.replay.specs.Batch.{Batch, batchOf};
-ghost use Rattle.conformance.specs.Case.{caseOf, openedState};
+ghost use Rattle.conformance.specs.Case.{heapRoom, metadataRoom, requestsRoom, caseOf, openedState};
+
+// Room for the bytes of a heap and of its metadata, and for requests.
+const HEAP: usize = 98304;
+
+const METADATA: usize = 4096;
+
+const REQUESTS: usize = 1024;
 
 // The lengths of a case's heap, metadata and requests, and its seeds.
 struct Case {
@@ -33,19 +43,27 @@ struct Ran {
     written: usize,
 }
 
-// Reads a header. No heap of at most 98,304 bytes has more than 266 bytes of metadata, so its length is never cut.
+// A word of a header, or the most that there is room for.
+fn word_up_to(header: &[u8], at: usize, most: usize) -> usize
+    ensures { λ r. ⌜ r ≡ min (wordAt (now (header .entry)) at) most ⌝ }
+{
+    least(wide(words::get(header, at)), most)
+}
+
+// Reads a header. No heap that there is room for has more than 266 bytes of metadata, so its length is never cut.
 fn case_of(header: &[u8]) -> Case
     ensures { λ r. ⌜ r ≡ caseOf (now (header .entry)) ⌝ }
-    ensures { λ r. ⌜ (r .heap ≤ 98304) × (r .metadata ≤ 4096) × (r .requests ≤ 16384) ⌝ }
+    ensures { λ r.
+        ⌜ (r .heap ≤ heapRoom) × (r .metadata ≤ metadataRoom) × (r .requests ≤ requestSize * requestsRoom) ⌝ }
 {
-    let heap = least(words::get(header, 0) as usize, 98304);
-    let requests = 16 * least(words::get(header, 12) as usize, 1024);
+    let heap = word_up_to(header, 0, HEAP);
+    let requests = word_up_to(header, 12, REQUESTS);
     Case {
         heap,
-        metadata: least(Plan::of(heap).metadata, 4096),
+        metadata: least(Plan::of(heap).metadata, METADATA),
         z: words::get(header, 4),
         w: words::get(header, 8),
-        requests,
+        requests: request::SIZE * requests,
     }
 }
 
@@ -71,11 +89,20 @@ fn run(heap: &mut [u8], metadata: &mut [u8], z: u32, w: u32, requests: &[u8], ou
     }
 }
 
+// Prints the line of an opening.
+fn print_opening(number: u32, value: u32) {
+    io::write_all(STDOUT_FILENO, b"open ");
+    io::print_decimal(STDOUT_FILENO, number as u64);
+    io::write_all(STDOUT_FILENO, b" ");
+    io::print_decimal(STDOUT_FILENO, value as u64);
+    io::write_all(STDOUT_FILENO, b"\n");
+}
+
 fn main() {
-    let mut heap = [0u8; 98304];
-    let mut metadata = [0u8; 4096];
+    let mut heap = [0u8; HEAP];
+    let mut metadata = [0u8; METADATA];
     let mut header = [0u8; 16];
-    let mut requests = [0u8; 16384];
+    let mut requests = [0u8; request::SIZE * REQUESTS];
     let mut out = io::large_buffer();
     let mut cases: u32 = 0;
     // A proved loop ends: this one ends with the input, or after more cases than any input has.
@@ -97,12 +124,10 @@ fn main() {
             &mut out,
         );
         let written = ran.written;
-        io::write_all(STDOUT_FILENO, b"open ");
-        io::print_decimal(STDOUT_FILENO, ran.number as u64);
-        io::write_all(STDOUT_FILENO, b" ");
-        io::print_decimal(STDOUT_FILENO, ran.value as u64);
-        io::write_all(STDOUT_FILENO, b"\n");
-        io::write_all(STDOUT_FILENO, &out[0..written]);
+        print_opening(ran.number, ran.value);
+        if !program::print(&out[0..written], b"conformance: standard output") {
+            return;
+        }
         cases += 1;
     }
 }

@@ -1,17 +1,14 @@
 // What the programs share: what their arguments ask for, input and output with a message where they fail, and the status that they end with.
 //
 // What is written, no contract can say.
-mod arguments;
+pub mod arguments;
 
-use arguments::Choice;
-use libc::STDERR_FILENO;
 use libc::STDIN_FILENO;
 use libc::STDOUT_FILENO;
 ghost use mathlib.Core.Path.{_≡_};
 ghost use mathlib.Core.Bool.{true, cond};
 ghost use Prim.Native.Nat.{_≤_};
 ghost use lib.ListN.{length};
-ghost use Rattle.program.specs.Task.{Started};
 
 pub const DONE: u8 = 0;
 
@@ -24,12 +21,6 @@ const STATUS_FILENO: i32 = 3;
 pub struct Got {
     pub failed: bool,
     pub count: usize,
-}
-
-// Whether the launcher wants the status, and whether the work is asked for.
-pub struct Task {
-    pub launched: bool,
-    pub works: bool,
 }
 
 // Reads from standard input, or says that `place` failed. How many bytes came, and which, the system decides.
@@ -72,43 +63,5 @@ pub fn finish(launched: bool, status: u8) {
     }
     if status != DONE {
         io::print_decimal(STATUS_FILENO, status as u64);
-    }
-}
-
-// Reads the arguments, and does what they ask for where that is not the work. The answer is that of the arguments' words, whatever these are.
-pub fn start(help: &[u8], place: &[u8], unknown: &[u8]) -> Task
-    ensures { λ r. ⌜ Started r ⌝ }
-{
-    let mut first = [0u8; 16];
-    let mut second = [0u8; 16];
-    let first_len = os::arg(1, &mut first);
-    let second_len = os::arg(2, &mut second);
-    let asked = arguments::read(
-        os::arg_count(),
-        &first[0..first_len],
-        &second[0..second_len],
-    );
-    let launched = asked.launched;
-    let choice = asked.choice;
-    match choice {
-        Choice::Run => {
-            return Task {
-                launched,
-                works: true,
-            };
-        }
-        Choice::Help => {
-            if !print(help, place) {
-                finish(launched, FAILED);
-            }
-        }
-        Choice::Unknown => {
-            io::write_all(STDERR_FILENO, unknown);
-            finish(launched, FAILED);
-        }
-    }
-    Task {
-        launched,
-        works: false,
     }
 }

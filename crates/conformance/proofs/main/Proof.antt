@@ -1,26 +1,29 @@
 -- `main` is safe and ends. The loop's invariant: the arrays keep their lengths.
-use Prim.Native.Nat.{ℕ, _-_, _^_}
+use Prim.Native.Nat.{ℕ, _-_, _*_, _^_}
 use borrow.Rule.Slice.PartMut.{same-len-mid}
 use native.Mathlib.Omega.{arith}
 use mathlib.Core.Path.{_≡_, _∙_}
 use mathlib.Core.List.{List}
 use lib.ListN.{length, length-append}
+use Rattle.request.specs.Parse.{requestSize}
+use Rattle.conformance.specs.Case.{heapRoom, metadataRoom, requestsRoom}
 use Rattle.conformance.proofs.main.Statement.{statement}
 use Rattle.conformance.proofs.main.Tie as tie
 
--- the arrays keep their lengths, also where a part was lent and is back
 record Kept (heap metadata header requests out : List ℕ) : Type 0 where
-  heap-length : length heap ≡ 98304
-  metadata-length : length metadata ≡ 4096
+  heap-length : length heap ≡ heapRoom
+  metadata-length : length metadata ≡ metadataRoom
   header-length : length header ≡ 16
-  requests-length : length requests ≡ 16384
+  requests-length : length requests ≡ requestSize * requestsRoom
   out-length : length out ≡ 65536
 
 abbrev Inv-loop : tie.InvT-loop
-Inv-loop heap₀ metadata₀ header₀ requests₀ out₀ cases₀ t14 t15 t16 heap metadata header requests out cases = Kept heap metadata header requests out
+Inv-loop heap₀ metadata₀ header₀ requests₀ out₀ cases₀ t14 heap metadata header requests out cases =
+    Kept heap metadata header requests out
 
 abbrev μ-loop : tie.MeasureT-loop
-μ-loop heap₀ metadata₀ header₀ requests₀ out₀ cases₀ t14 t15 t16 heap metadata header requests out cases = 2 ^ 32 - cases
+μ-loop heap₀ metadata₀ header₀ requests₀ out₀ cases₀ t14 heap metadata header requests out cases =
+    2 ^ 32 - cases
 
 large-buffer-requires : tie.Need-large-buffer-requires Inv-loop μ-loop
 large-buffer-requires c κs = tt
@@ -88,74 +91,58 @@ slice-aggregate-run c = omega arith
 run-requires : tie.Need-run-requires Inv-loop μ-loop
 run-requires c κs = tt
 
-slice-aggregate-write-all : tie.Need-slice-aggregate-write-all Inv-loop μ-loop
-slice-aggregate-write-all c = omega arith
+print-opening-requires : tie.Need-print-opening-requires Inv-loop μ-loop
+print-opening-requires c κs = tt
 
-write-all-requires : tie.Need-write-all-requires Inv-loop μ-loop
-write-all-requires c κs = tt
+sub-print : tie.Need-sub-print Inv-loop μ-loop
+sub-print c = omega arith
 
-cast-print-decimal : tie.Need-cast-print-decimal Inv-loop μ-loop
-cast-print-decimal c = omega arith
+part-print-start : tie.Need-part-print-start Inv-loop μ-loop
+part-print-start c = omega arith
 
-print-decimal-requires : tie.Need-print-decimal-requires Inv-loop μ-loop
-print-decimal-requires c κs = tt
+part-print-end : tie.Need-part-print-end Inv-loop μ-loop
+part-print-end c = omega arith
 
-slice-aggregate-write-all-2 : tie.Need-slice-aggregate-write-all-2 Inv-loop μ-loop
-slice-aggregate-write-all-2 c = omega arith
+slice-aggregate-print : tie.Need-slice-aggregate-print Inv-loop μ-loop
+slice-aggregate-print c = omega arith
 
-write-all-requires-2 : tie.Need-write-all-requires-2 Inv-loop μ-loop
-write-all-requires-2 c κs = tt
+print-requires : tie.Need-print-requires Inv-loop μ-loop
+print-requires c κs = tt
 
-cast-print-decimal-2 : tie.Need-cast-print-decimal-2 Inv-loop μ-loop
-cast-print-decimal-2 c = omega arith
-
-print-decimal-requires-2 : tie.Need-print-decimal-requires-2 Inv-loop μ-loop
-print-decimal-requires-2 c κs = tt
-
-slice-aggregate-write-all-3 : tie.Need-slice-aggregate-write-all-3 Inv-loop μ-loop
-slice-aggregate-write-all-3 c = omega arith
-
-write-all-requires-3 : tie.Need-write-all-requires-3 Inv-loop μ-loop
-write-all-requires-3 c κs = tt
-
-sub-write-all : tie.Need-sub-write-all Inv-loop μ-loop
-sub-write-all c = omega arith
-
-part-write-all-start : tie.Need-part-write-all-start Inv-loop μ-loop
-part-write-all-start c = omega arith
-
-part-write-all-end : tie.Need-part-write-all-end Inv-loop μ-loop
-part-write-all-end c = omega arith
-
-write-all-requires-4 : tie.Need-write-all-requires-4 Inv-loop μ-loop
-write-all-requires-4 c κs = tt
+returns-2 : tie.Need-returns-2 Inv-loop μ-loop
+returns-2 c = tt
 
 add-cases : tie.Need-add-cases Inv-loop μ-loop
-add-cases c = let written = c .before .before .before .before .before .before in omega (arith, written .before .before .before .before .before .before .before)
+add-cases c =
+    let ran = c .before .before .before .before .before .before .before .before .before in
+    omega (arith, ran .before .before .before .before .before .before .before .before .before)
 
 loop-less : tie.Need-loop-less Inv-loop μ-loop
-loop-less c = let written = c .before .before .before .before .before .before in omega (arith, written .before .before .before .before .before .before .before)
+loop-less c =
+    let ran = c .before .before .before .before .before .before .before .before .before in
+    omega (arith, ran .before .before .before .before .before .before .before .before .before)
 
 loop-again : tie.Need-loop-again Inv-loop μ-loop
 loop-again c =
-    let written = c .before .before .before .before .before .before in
-    let back = written .before .before .before .before .before .before .before in
-    let ran = back .before .before .before .run in
-    let filled = back .before .before .before .before .before .before .before .before .before in
+    let ran = c .before .before .before .before .before .before .before .before .before in
+    let back = c .before .before .before .before .before .before .before in
+    let filled = ran .before .before .before .before .before .before in
     let cased = filled .before .before .before in
     let read = filled .before .read-full2 in
     let case = cased .case-of .result in
     let l = cased .before .before .before .before .before .before .before .loop in
     record {
-      heap-length = same-len-mid 0 (case .heap - 0) (l .heap) (ran .last .0) (back .before .before .heap2 .given) ∙ l .inv .heap-length;
-      metadata-length = same-len-mid 0 (case .metadata - 0) (l .metadata) (ran .last .1 .0) (back .before .metadata2 .given) ∙ l .inv .metadata-length;
-      header-length = omega (arith, back);
-      requests-length = same-len-mid 0 (case .requests - 0) (l .requests) (read .last .1 .0) (filled .requests2 .given) ∙ l .inv .requests-length;
-      out-length = omega (arith, back);
+      heap-length = same-len-mid 0 (case .heap - 0) (l .heap) (ran .run .last .0) (back .before .heap2 .given) ∙ l .inv .heap-length;
+      metadata-length =
+          same-len-mid 0 (case .metadata - 0) (l .metadata) (ran .run .last .1 .0) (back .metadata2 .given) ∙ l .inv .metadata-length;
+      header-length = omega (arith, ran);
+      requests-length =
+          same-len-mid 0 (case .requests - 0) (l .requests) (read .last .1 .0) (filled .requests2 .given) ∙ l .inv .requests-length;
+      out-length = omega (arith, ran);
     }
 
-returns-2 : tie.Need-returns-2 Inv-loop μ-loop
-returns-2 c = tt
+returns-3 : tie.Need-returns-3 Inv-loop μ-loop
+returns-3 c = tt
 
 pub main-spec : {M : Type 1} → statement M
 main-spec =
@@ -185,21 +172,14 @@ main-spec =
     part-run-end
     slice-aggregate-run
     run-requires
-    slice-aggregate-write-all
-    write-all-requires
-    cast-print-decimal
-    print-decimal-requires
-    slice-aggregate-write-all-2
-    write-all-requires-2
-    cast-print-decimal-2
-    print-decimal-requires-2
-    slice-aggregate-write-all-3
-    write-all-requires-3
-    sub-write-all
-    part-write-all-start
-    part-write-all-end
-    write-all-requires-4
+    print-opening-requires
+    sub-print
+    part-print-start
+    part-print-end
+    slice-aggregate-print
+    print-requires
+    returns-2
     add-cases
     loop-less
     loop-again
-    returns-2)
+    returns-3)
