@@ -10,9 +10,10 @@ use lib.ListN.{length, take, drop, length-append, length-drop, drop-of-length-le
 use lib.Seq.{take-all, take-length, drop-length, drop-drop}
 use borrow.Author.Tests.{lt-ltb, le-ltb, le-leb, lt-leb}
 use Rattle.writing.specs.Overwrite.{overwrite}
+use Rattle.request.specs.Parse.{requestSize}
 use Rattle.replay.specs.Line.{lineRoom, lineFor}
 use Rattle.rules.specs.Call.{State, stateOf, stateAfter}
-use Rattle.replay.specs.Batch.{requests, lines, after, accepted, batchOf}
+use Rattle.replay.specs.Batch.{Batch, behind, served, requests, accepted, batchOf}
 use Rattle.writing.proofs.Writing.{Wrote, wrote-then, wrote-from, wrote-length}
 
 module _ (room number : ℕ) (input : List ℕ) where
@@ -47,40 +48,38 @@ module _ (n : ℕ) (xs : List ℕ) where
   ]
 
 -- a request starts at a place and ends sixteen bytes on, or where the input ends
-module _ (input : List ℕ) (at end : ℕ) (e : end ≡ at + min 16 (length input - at)) where
+module _ (input : List ℕ) (at end : ℕ) (e : end ≡ at + min requestSize (length input - at)) where
   -- the request
-  pub request-part : take (end - at) (drop at input) ≡ take 16 (drop at input)
+  pub request-part : take (end - at) (drop at input) ≡ take requestSize (drop at input)
   request-part =
-      let size : end - at ≡ min 16 (length (drop at input)) = rw length-drop (omega arith) in
-      rw size (take-min 16 (drop at input))
+      let size : end - at ≡ min requestSize (length (drop at input)) = rw length-drop (omega arith) in
+      rw size (take-min requestSize (drop at input))
 
   -- what comes after it
-  request-rest : drop end input ≡ drop 16 (drop at input)
-  request-rest = rw (e, ← drop-drop, ← length-drop) (drop-min 16 (drop at input))
+  request-rest : drop end input ≡ drop requestSize (drop at input)
+  request-rest = rw (e, ← drop-drop, ← length-drop) (drop-min requestSize (drop at input))
+
+-- one text before another
+pub behind-both : (x y : List ℕ) (b : Batch) → behind x (behind y b) ≡ behind (x ++ y) b
+behind-both x y b = rw append-assoc
 
 -- one of the requests that are left is served
-module _ (left : ℕ) (now : State) (input : List ℕ) (some : 0 < left) where
-  one-more : left ≡ suc (left - 1)
-  one-more = omega arith
-
-  lines-more : (next : ℕ)
-      → lines left now next input
-      ≡ lineFor now (take 16 input) next ++ lines (left - 1) (stateAfter now (take 16 input)) (next + 1) (drop 16 input)
-  unfolding lines
-  lines-more next = ap (λ (k : ℕ). lines k now next input) one-more
-
-  after-more : after left now input ≡ after (left - 1) (stateAfter now (take 16 input)) (drop 16 input)
-  unfolding after
-  after-more = ap (λ (k : ℕ). after k now input) one-more
+served-more : (left : ℕ) (now : State) (next : ℕ) (input : List ℕ) → 0 < left
+    → let request = take requestSize input in
+    served left now next input
+    ≡ behind (lineFor now request next) (served (left - 1) (stateAfter now request) (next + 1) (drop requestSize input))
+unfolding served
+served-more left now next input some =
+    let one-more : left ≡ suc (left - 1) = omega arith in
+    ap (λ (k : ℕ). served k now next input) one-more
 
 -- part of a batch is served and `text` written: `left` requests from `at` on are left, numbered from `next` on
-pub record Replayed (before : State) (number : ℕ) (input out₀ : List ℕ) (now : State) (out : List ℕ) (left next at written : ℕ) : Type 0 where
+pub record Replayed (before : State) (number : ℕ) (input out₀ : List ℕ) (now : State) (out : List ℕ)
+    (left next at written : ℕ) : Type 0 where
   pub text : List ℕ
   pub wrote : Wrote out₀ out 0 text
   pub size : written ≡ length text
-  pub text-rest : batchOf (length out₀) before number input .text ≡ text ++ lines left now next (drop at input)
-  pub state-rest : batchOf (length out₀) before number input .state ≡ after left now (drop at input)
-  pub next-rest : batchOf (length out₀) before number input .next ≡ next + left
+  pub rest : batchOf (length out₀) before number input ≡ behind text (served left now next (drop at input))
   pub within : at ≤ length input
   pub room : written + left * lineRoom ≤ length out
   pub numbers : next + left < 2 ^ 64
@@ -90,16 +89,15 @@ pub record Replayed (before : State) (number : ℕ) (input out₀ : List ℕ) (n
 
 module _ {before : State} {number : ℕ} {input out₀ : List ℕ} where
   -- nothing is served yet
-  pub replayed-none : {left : ℕ} → left ≡ accepted (length out₀) number input → left * lineRoom ≤ length out₀ → number + left < 2 ^ 64
+  pub replayed-none : {left : ℕ} → left ≡ accepted (length out₀) number input → left * lineRoom ≤ length out₀
+      → number + left < 2 ^ 64
       → Replayed before number input out₀ before out₀ left number 0 0
   replayed-none e room numbers =
       record {
         text = [];
         wrote = record { bytes = refl; room = omega arith };
         size = refl;
-        text-rest = rw e;
-        state-rest = rw e;
-        next-rest = rw e;
+        rest = rw e;
         within = omega arith;
         room = omega arith;
         numbers = numbers;
@@ -108,26 +106,20 @@ module _ {before : State} {number : ℕ} {input out₀ : List ℕ} where
         metadata-kept = refl;
       }
 
-  module _ {now : State} {out : List ℕ} {left next at written : ℕ} (p : Replayed before number input out₀ now out left next at written) where
+  module _ {now : State} {out : List ℕ} {left next at written : ℕ}
+      (p : Replayed before number input out₀ now out left next at written) where
     -- all is served
-    pub replayed-lines : left ≤ 0 → batchOf (length out₀) before number input .text ≡ p .text
-    unfolding lines
-    replayed-lines h =
+    pub replayed-all : left ≤ 0
+        → batchOf (length out₀) before number input ≡ record { text = p .text; state = now; next = next }
+    unfolding served
+    replayed-all h =
         let none : left ≡ 0 = omega arith in
-        p .text-rest ∙ rw none (append-nil (p .text))
-
-    pub replayed-state : left ≤ 0 → batchOf (length out₀) before number input .state ≡ now
-    unfolding after
-    replayed-state h =
-        let none : left ≡ 0 = omega arith in
-        p .state-rest ∙ rw none
-
-    pub replayed-next : left ≤ 0 → next ≡ batchOf (length out₀) before number input .next
-    replayed-next h = sym (p .next-rest ∙ omega arith)
+        p .rest ∙ rw (none, append-nil)
 
     -- one request more is served, and its line written
-    pub replayed-more : 0 < left → {end r : ℕ} {w heap metadata : List ℕ} → end ≡ at + min 16 (length input - at)
-        → let request = take 16 (drop at input) in
+    pub replayed-more : 0 < left → {end r : ℕ} {w heap metadata : List ℕ}
+        → end ≡ at + min requestSize (length input - at)
+        → let request = take requestSize (drop at input) in
         let line = lineFor now request next in
         r ≡ length line → r ≤ lineRoom → w ≡ overwrite (take (length out - written) (drop written out)) 0 line
         → stateOf heap metadata ≡ stateAfter now request
@@ -135,22 +127,21 @@ module _ {before : State} {number : ℕ} {input out₀ : List ℕ} where
         → Replayed before number input out₀ (record { heap = heap; metadata = metadata })
         (take written out ++ (w ++ drop (length out - written) (drop written out))) (left - 1) (next + 1) end (written + r)
     replayed-more some {end} {r} {w} {heap} {metadata} e size small bytes state m h =
-        let request : List ℕ = take 16 (drop at input) in
-        let line : List ℕ = lineFor now request next in
+        let line : List ℕ = lineFor now (take requestSize (drop at input)) next in
         let one = wrote-from out line written bytes (omega arith) in
         let all = wrote-then (p .wrote) one (omega arith) in
-        let kept = wrote-length all in
         record {
           text = p .text ++ line;
           wrote = all;
           size = rw (length-append, size, p .size);
-          text-rest = p .text-rest ∙ rw (lines-more left now (drop at input) some next, state, request-rest input at end e) (sym (append-assoc (p .text) line _));
-          state-rest = p .state-rest ∙ rw (after-more left now (drop at input) some, state, request-rest input at end e);
-          next-rest = p .next-rest ∙ omega arith;
+          rest =
+              p .rest
+              ∙ rw (served-more left now next (drop at input) some, state, request-rest input at end e)
+              (behind-both (p .text) line _);
           within = omega arith;
-          room = omega arith;
+          room = omega (arith, wrote-length all);
           numbers = omega arith;
-          out-kept = kept;
+          out-kept = wrote-length all;
           heap-kept = omega arith;
           metadata-kept = omega arith;
         }

@@ -1,10 +1,8 @@
 -- `case_of` meets its contract: each length is cut to what there is room for.
 use Prim.Native.Nat.{_*_}
 use native.Mathlib.Omega.{arith}
-use mathlib.Core.Path.{_≡_}
 use borrow.Author.Needs.{needs}
 use Rattle.request.specs.Parse.{requestSize}
-use Rattle.conformance.specs.Case.{caseOf}
 use Rattle.conformance.proofs.case_of.Statement.{statement}
 use Rattle.conformance.proofs.case_of.Tie as tie
 

@@ -5,7 +5,7 @@ use mathlib.Core.Path.{refl}
 use borrow.Author.Tests.{le-leb}
 use lib.ListN.{length, take, drop, length-take, length-drop}
 use Rattle.replay.specs.Line.{lineRoom}
-use Rattle.replay.proofs.Replayed.{Replayed, request-part, replayed-none, replayed-more, replayed-lines, replayed-state, replayed-next}
+use Rattle.replay.proofs.Replayed.{Replayed, request-part, replayed-none, replayed-all, replayed-more}
 use Rattle.replay.proofs.batch.Statement.{statement}
 use Rattle.replay.proofs.batch.Tie as tie
 
@@ -82,7 +82,7 @@ same-length-3 c = c .before .loop .inv .out-kept
 returns : tie.Need-returns Inv-loop μ-loop
 returns c =
     let p = c .before .loop .inv in
-    rw (replayed-lines p (omega arith), replayed-state p (omega arith)) ((p .size, replayed-next p (omega arith), p .wrote .bytes, refl), omega arith)
+    rw (replayed-all p (omega arith)) ((p .size, refl, p .wrote .bytes, refl), omega arith)
 
 pub batch-spec : {M : Type 1} → statement M
 batch-spec =

@@ -1,20 +1,14 @@
 -- `step` serves a request and writes its line, where there is room for one.
 use borrow.Author.Needs.{needs}
-use mathlib.Core.Path.{_≡_, refl, ap, _∙_}
+use mathlib.Core.Path.{refl, ap, _∙_}
 use borrow.Author.Tests.{le-leb, lt-leb}
-use lib.ListN.{length}
-use Prim.Native.Nat.{ℕ, zero-le}
+use Prim.Native.Nat.{zero-le}
 use native.Mathlib.Omega.{arith}
-use Rattle.writing.specs.Overwrite.{overwrite}
 use Rattle.answer.specs.Reply.{Reply}
 use Rattle.rules.specs.Call.{stateOf}
-use Rattle.replay.specs.Line.{lineOf, lineRoom}
+use Rattle.replay.specs.Line.{lineRoom}
 use Rattle.replay.proofs.step.Statement.{statement}
 use Rattle.replay.proofs.step.Tie as tie
-
--- replies with the same numbers are the same
-reply-path : {r : Reply} {n v : ℕ} → n ≡ r .number → v ≡ r .value → _≡_ {A = Reply} (record { number = n; value = v }) r
-reply-path p q = λ i. record { number = p i; value = q i }
 
 returns : tie.Need-returns
 returns c = rw (lt-leb lineRoom _ (c .if1 .taken)) ((refl, refl, refl), (zero-le, zero-le))
@@ -48,18 +42,12 @@ returns-2 c =
     let shown = c .before .before .before .before in
     let served = shown .before .before .before .before .before .before in
     let tested = served .before .before .before .before in
-    let a = tested .before .before .before .before .before .args in
     let e = served .serve .ensures in
-    let line = c .before .before .put-line .ensures in
     let number = shown .number .ensures ∙ ap (λ (r : Reply). r .number) (e .0) in
     let value = c .before .before .before .value .ensures ∙ ap (λ (r : Reply). r .value) (e .0) in
-    let same = reply-path number value in
+    let line = rw (number, value) at (c .before .before .put-line .ensures) in
     rw (le-leb lineRoom _ (tested .if1 .left)) (
-      (
-        line .0 ∙ ap (λ (r : Reply). length (lineOf (a .number) r)) same,
-        line .2 ∙ ap (λ (r : Reply). overwrite (a .out .now) 0 (lineOf (a .number) r)) same,
-        λ i. stateOf (e .2 i) (e .1 i),
-      ),
+      (line .0, line .2, λ i. stateOf (e .2 i) (e .1 i)),
       (omega arith, omega arith),
     )
 
