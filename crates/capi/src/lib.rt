@@ -37,7 +37,7 @@ fn in_numbers(answer: Answer) -> PohelduAnswer
 #[no_mangle]
 pub extern "C" fn poheldu_open(heap: &[u8], metadata: &mut [u8], z: u32, w: u32) -> PohelduAnswer
     ensures { λ r.
-        let called = opening (now (heap .entry)) (now (metadata .entry)) (setup z w) in
+        let called = opening (length (now (heap .entry))) (now (metadata .entry)) (setup z w) in
         ⌜ (replyIn r ≡ called .answer) × (now (metadata .exit) ≡ called .metadata) ⌝ }
 {
     in_numbers(heap::open(heap, metadata, z, w))
@@ -52,9 +52,9 @@ pub extern "C" fn poheldu_serve(
 ) -> PohelduAnswer
     ensures { λ r.
         let beside = lent (now (source .entry)) in
-        let called = call (now (heap .entry)) (now (metadata .entry)) (now (request .entry)) beside in
+        let called = call (length (now (heap .entry))) (now (metadata .entry)) (now (request .entry)) beside in
         ⌜ (replyIn r ≡ called .answer) × (now (metadata .exit) ≡ called .metadata)
-        × (now (heap .exit) ≡ called .heap) ⌝ }
+        × (now (heap .exit) ≡ called .heap (now (heap .entry))) ⌝ }
 {
     in_numbers(heap::serve(heap, metadata, request, source))
 }

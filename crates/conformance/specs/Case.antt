@@ -1,6 +1,7 @@
 -- What the header of a case says, and what its opening leaves.
 use Prim.Native.Nat.{ℕ, _*_, min}
 use mathlib.Core.List.{List}
+use lib.ListN.{length}
 use Rattle.words.specs.Word.{wordAt}
 use Rattle.request.specs.Parse.{requestSize}
 use Rattle.geometry.specs.Layout.{layoutOf, metadataLength}
@@ -32,4 +33,4 @@ caseOf header =
 
 -- what the requests are served on: the heap as it was, and the metadata as the opening leaves it
 abbrev pub openedState : List ℕ → List ℕ → ℕ → ℕ → State
-openedState heap metadata z w = record { heap = heap; metadata = opening heap metadata (setup z w) .metadata }
+openedState heap metadata z w = record { heap = heap; metadata = opening (length heap) metadata (setup z w) .metadata }

@@ -70,7 +70,7 @@ fn case_of(header: &[u8]) -> Case
 // Opens the heap, and serves the requests whatever the opening answered.
 fn run(heap: &mut [u8], metadata: &mut [u8], z: u32, w: u32, requests: &[u8], out: &mut [u8]) -> Ran
     ensures { λ r.
-        let opened : Reply = opening (now (heap .entry)) (now (metadata .entry)) (setup z w) .answer in
+        let opened : Reply = opening (length (now (heap .entry))) (now (metadata .entry)) (setup z w) .answer in
         ⌜ _≡_ {A = Reply} (record { number = r .number; value = r .value }) opened ⌝ }
     ensures { λ r.
         let s : State = openedState (now (heap .entry)) (now (metadata .entry)) z w in

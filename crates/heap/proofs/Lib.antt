@@ -1,5 +1,4 @@
 pub mod Part
-pub mod Opening
 pub mod Allocating
 pub mod Live
 pub mod Freeing

@@ -24,7 +24,7 @@ ghost use Rattle.rules.specs.Call.{calledBy, call, opening};
 // Writes fresh metadata for a heap of this length. The heap's bytes are left alone.
 pub fn open(heap: &[u8], metadata: &mut [u8], z: u32, w: u32) -> Answer
     ensures { λ r.
-        let called = opening (now (heap .entry)) (now (metadata .entry)) (setup z w) in
+        let called = opening (length (now (heap .entry))) (now (metadata .entry)) (setup z w) in
         ⌜ (replyOf r ≡ called .answer) × (now (metadata .exit) ≡ called .metadata) ⌝ }
 {
     match judge::lengths(heap.len(), metadata.len()) {
@@ -52,9 +52,9 @@ fn perform(
     requires { ⌜ Fits layout (length (now heap)) (length (now metadata)) ⌝ }
     ensures { λ r.
         let outcome = perform layout (now (metadata .entry)) (lent (now (source .entry))) request in
-        let called = calledBy layout (now (heap .entry)) (now (metadata .entry)) outcome in
+        let called = calledBy layout (now (metadata .entry)) outcome in
         ⌜ (replyOf r ≡ called .answer) × (now (metadata .exit) ≡ called .metadata)
-        × (now (heap .exit) ≡ called .heap) ⌝ }
+        × (now (heap .exit) ≡ called .heap (now (heap .entry))) ⌝ }
 {
     match request {
         Request::Allocate(size) => allocate::allocate(metadata, layout, size),
@@ -75,9 +75,9 @@ fn act(
     requires { ⌜ Fits layout (length (now heap)) (length (now metadata)) ⌝ }
     ensures { λ r.
         let outcome = act layout (now (metadata .entry)) (lent (now (source .entry))) (parse (now (request .entry))) in
-        let called = calledBy layout (now (heap .entry)) (now (metadata .entry)) outcome in
+        let called = calledBy layout (now (metadata .entry)) outcome in
         ⌜ (replyOf r ≡ called .answer) × (now (metadata .exit) ≡ called .metadata)
-        × (now (heap .exit) ≡ called .heap) ⌝ }
+        × (now (heap .exit) ≡ called .heap (now (heap .entry))) ⌝ }
 {
     let Parsed::Whole(whole) = request::read(request) else {
         return Answer::Refused(Refusal::MalformedRequest);
@@ -89,9 +89,9 @@ fn act(
 pub fn serve(heap: &mut [u8], metadata: &mut [u8], request: &[u8], source: &[u8]) -> Answer
     ensures { λ r.
         let beside = lent (now (source .entry)) in
-        let called = call (now (heap .entry)) (now (metadata .entry)) (now (request .entry)) beside in
+        let called = call (length (now (heap .entry))) (now (metadata .entry)) (now (request .entry)) beside in
         ⌜ (replyOf r ≡ called .answer) × (now (metadata .exit) ≡ called .metadata)
-        × (now (heap .exit) ≡ called .heap) ⌝ }
+        × (now (heap .exit) ≡ called .heap (now (heap .entry))) ⌝ }
 {
     match judge::lengths(heap.len(), metadata.len()) {
         Judged::Unfit(refusal) => Answer::Refused(refusal),

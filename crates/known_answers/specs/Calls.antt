@@ -7,9 +7,9 @@ use Rattle.geometry.specs.Layout.{layoutOf, classes, metadataLength}
 use Rattle.request.specs.Parse.{requestBytes}
 use Rattle.answer.specs.Reply.{Reply}
 use Rattle.rules.specs.Metadata.{withGenerator}
-use Rattle.rules.specs.Open.{setup, openReply}
-use Rattle.rules.specs.Outcome.{Outcome, reply, metadataAfter}
-use Rattle.rules.specs.Serve.{lent, serve}
+use Rattle.rules.specs.Open.{setup}
+use Rattle.rules.specs.Serve.{lent}
+use Rattle.rules.specs.Call.{call, opening}
 use Rattle.vote.specs.Decide.{Decision, Tally, decide, tally, outputAfter}
 
 -- what the definitions give, and what is right
@@ -34,7 +34,7 @@ heapOf R = classes * R
 
 -- the answer to an opening on metadata of some length
 unfoldable pub opened : ℕ → ℕ → ℕ → ℕ → List ℕ
-opened R metadataBytes z w = numbers (openReply (heapOf R) metadataBytes (setup z w))
+opened R metadataBytes z w = numbers (opening (heapOf R) (replicate metadataBytes 0) (setup z w) .answer)
 
 -- metadata with clear bitmaps and any generator, of an opening or not
 unfoldable pub clear : ℕ → ℕ → ℕ → List ℕ
@@ -50,15 +50,12 @@ free offset = requestBytes 1 offset 0
 abbrev pub remaining : ℕ → List ℕ
 remaining offset = requestBytes 2 offset 0
 
--- what a request comes to on metadata m, its answer, and the metadata after it
-unfoldable pub outcomeOf : ℕ → List ℕ → List ℕ → List ℕ → Outcome
-outcomeOf R m r source = serve (heapOf R) m r (lent source)
-
+-- the answer to a request on metadata m, and the metadata after it
 unfoldable pub answerTo : ℕ → List ℕ → List ℕ → List ℕ
-answerTo R m r = numbers (reply (layoutOf (heapOf R)) (outcomeOf R m r []))
+answerTo R m r = numbers (call (heapOf R) m r (lent []) .answer)
 
 unfoldable pub after : ℕ → List ℕ → List ℕ → List ℕ
-after R m r = metadataAfter (layoutOf (heapOf R)) m (outcomeOf R m r [])
+after R m r = call (heapOf R) m r (lent []) .metadata
 
 -- ---- votes
 

@@ -6,9 +6,10 @@ use Rattle.mwc.specs.Draw.{next, drawn}
 use Rattle.geometry.specs.declared.Layout.{Layout}
 use Rattle.geometry.specs.Layout.{layoutOf, classOf, metadataLength}
 use Rattle.request.specs.Parse.{requestBytes}
-use Rattle.rules.specs.Open.{setup, opened}
-use Rattle.rules.specs.Outcome.{Outcome, reply, heapAfter}
-use Rattle.known_answers.specs.Calls.{Row, row, seeds, numbers, heapOf, allocate, free, outcomeOf, answerTo, after, voting}
+use Rattle.rules.specs.Open.{setup}
+use Rattle.rules.specs.Serve.{lent}
+use Rattle.rules.specs.Call.{Call, call, opening}
+use Rattle.known_answers.specs.Calls.{Row, row, seeds, numbers, heapOf, allocate, free, answerTo, after, voting}
 
 -- ---- a heap with regions of 4,096 bytes, opened with z = 1 and w = 1
 
@@ -19,7 +20,7 @@ abbrev pub G : Layout
 G = layoutOf (heapOf R)
 
 unfoldable pub start : List ℕ
-start = opened (heapOf R) (replicate (metadataLength G) 0) (setup 1 1)
+start = opening (heapOf R) (replicate (metadataLength G) 0) (setup 1 1) .metadata
 
 -- with an object of 5 bytes, which lies at 640
 unfoldable pub oneObject : List ℕ
@@ -28,8 +29,8 @@ oneObject = after R start (allocate 5)
 -- the answer to a request while that object is live, and then the 8 bytes at 640 and the one after them, which were FF hex
 unfoldable pub copying : List ℕ → List ℕ → List ℕ
 copying r source =
-    let o : Outcome = outcomeOf R oneObject r source in
-    numbers (reply G o) ++ take 9 (drop 640 (heapAfter G oneObject (replicate (heapOf R) 0xff) o))
+    let c : Call = call (heapOf R) oneObject r (lent source) in
+    numbers (c .answer) ++ take 9 (drop 640 (c .heap (replicate (heapOf R) 0xff)))
 
 -- votes on blocks of one byte
 unfoldable pub bytesVoted : List ℕ → List ℕ

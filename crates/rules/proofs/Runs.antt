@@ -5,16 +5,16 @@ use mathlib.Core.List.{List, [], _∷_, cons-eq-cons}
 use mathlib.Core.Logic.{_↔_}
 use native.Mathlib.Omega.{arith}
 use lib.ListN.{length, take}
-use borrow.Author.Tests.{eq-eqb}
 use Rattle.geometry.specs.Layout.{regionOf, layoutOf, metadataLength}
 use Rattle.request.specs.Parse.{parse}
-use Rattle.rules.specs.Open.{Setup, openReply, opened, fresh}
-use Rattle.rules.specs.Serve.{act, serve}
+use Rattle.rules.specs.Open.{Setup}
+use Rattle.rules.specs.Serve.{act}
+use Rattle.rules.specs.Call.{calledBy, call, opening}
 use Rattle.rules.specs.Run.{Entry, HeapsOfLength, Event, stepOf, trace, history}
 use Rattle.rules.specs.Pair.{Pair, PairOff}
 use Rattle.rules.specs.Live.{Object, objectsAfter, live, Sound}
 use Rattle.rules.proofs.Effects.{fresh-fits}
-use Rattle.rules.proofs.Serving.{no-heap, serve-acts}
+use Rattle.rules.proofs.Serving.{right-lengths, call-acts, has-layout, opened-fresh}
 use Rattle.rules.proofs.Results.{result, made, made-length}
 use Rattle.rules.proofs.Pairing.{pair-steps, steps-pair}
 use Rattle.rules.proofs.Tracking.{Tracks, tracks-sound, fresh-tracks, result-tracks}
@@ -23,20 +23,13 @@ use Rattle.rules.proofs.Tracking.{Tracks, tracks-sound, fresh-tracks, r
 abbrev eventOf : List ℕ → Entry → Event
 eventOf m e = record { asked = parse (e .request); answer = stepOf m e .answer }
 
--- a served opening has a layout, and leaves fresh metadata
-module _ (n : ℕ) (m : List ℕ) (s : Setup) (e : openReply n (length m) s .number ≡ 0) where
-  has-layout : regionOf n ≡ 0 → ⊥
-  has-layout z = let q : openReply n (length m) s .number ≡ 2 = rw (no-heap n (length m) z) in omega arith
-
-  opened-fresh : opened n m s ≡ fresh (layoutOf n) s
-  opened-fresh = rw (eq-eqb (openReply n (length m) s .number) 0 e)
-
 module _ (n : ℕ) (region : regionOf n ≡ 0 → ⊥) where
   -- ---- one request
 
   module _ (m : List ℕ) (fits : length m ≡ metadataLength (layoutOf n)) where
-    acts : (e : Entry) → serve n m (e .request) (e .lent) ≡ act (layoutOf n) m (e .lent) (parse (e .request))
-    acts e = serve-acts n m (e .request) (e .lent) region fits
+    acts : (e : Entry) → let G = layoutOf n in
+        call n m (e .request) (e .lent) ≡ calledBy G m (act G m (e .lent) (parse (e .request)))
+    acts e = call-acts n m (e .request) (e .lent) (right-lengths n (length m) region fits)
 
     step-fits : (e : Entry) → length (e .heap) ≡ n → length (stepOf m e .metadata) ≡ metadataLength (layoutOf n)
     step-fits e h =
@@ -85,11 +78,11 @@ module _ (n : ℕ) (region : regionOf n ≡ 0 → ⊥) where
 -- On metadata of any earlier bytes, each just opened, with the same seeds on the same heap length: the traces of two runs are equal exactly
 -- when their histories pair off; and in both, after every number of requests, no byte lies in two live objects and no class is over half full.
 pub indistinguishable : (heapBytes : ℕ) (s : Setup) (m m′ : List ℕ)
-    → openReply heapBytes (length m) s .number ≡ 0 → openReply heapBytes (length m′) s .number ≡ 0
+    → opening heapBytes m s .answer .number ≡ 0 → opening heapBytes m′ s .answer .number ≡ 0
     → (es fs : List Entry) → length es ≡ length fs → HeapsOfLength heapBytes es → HeapsOfLength heapBytes fs
     → let G = layoutOf heapBytes in
-    let start = opened heapBytes m s in
-    let start′ = opened heapBytes m′ s in
+    let start = opening heapBytes m s .metadata in
+    let start′ = opening heapBytes m′ s .metadata in
     ((trace start es ≡ trace start′ fs) ↔ PairOff G (history start es) (history start′ fs))
     × ((k : ℕ) → Sound G (live G [] (history start (take k es))) × Sound G (live G [] (history start′ (take k fs))))
 indistinguishable heapBytes s m m′ e e′ es fs l h k =

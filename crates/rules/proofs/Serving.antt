@@ -3,6 +3,7 @@ use Prim.Native.Nat.{ℕ}
 use mathlib.Core.Path.{_≡_, refl, sym, subst}
 use mathlib.Core.Bool.{Bool, true, false}
 use mathlib.Core.List.{List}
+use native.Mathlib.Decide.{ℕ-discrete}
 use native.Mathlib.Omega.{arith}
 use borrow.Author.Tests.{eq-eqb, ne-eqb, eqb-true, eqb-false}
 use lib.Dec.{eqb}
@@ -12,12 +13,14 @@ use Rattle.geometry.specs.Layout.{regionOf, layoutOf, metadataLength}
 use Rattle.geometry.proofs.Geometry.{laid}
 use Rattle.request.specs.Parse.{parse}
 use Rattle.answer.specs.declared.Refusal.{Refusal}
-use Rattle.answer.specs.declared.Refusal.the-variants.{HeapLength, MetadataLength}
-use Rattle.answer.specs.Reply.{Reply, refusedBy}
+use Rattle.answer.specs.declared.Refusal.the-variants.{ZeroSeed, HeapLength, MetadataLength}
+use Rattle.answer.proofs.Numbers.{refusal-number}
+use Rattle.mwc.specs.Draw.{isUnusable}
 use Rattle.rules.specs.declared.Judged.the-variants.{Laid, Unfit}
 use Rattle.rules.specs.Judge.{judge, Fits}
-use Rattle.rules.specs.Serve.{Lent, act, serve}
-use Rattle.rules.specs.Call.{Call, calledBy, call}
+use Rattle.rules.specs.Open.{Setup, fresh}
+use Rattle.rules.specs.Serve.{Lent, act}
+use Rattle.rules.specs.Call.{calledBy, unserved, call, openedBy, opening}
 
 unfit-laid : {r : Refusal} {G : Layout} → Unfit r ≡ Laid G → ⊥
 unfit-laid e = let z : _≡_ {A = ℕ} 0 1 = cc in omega arith
@@ -58,24 +61,48 @@ module _ (n k : ℕ) where
           (sym same, subst (λ L. Fits L n k) same (fits (eqb-false (regionOf n) 0 p) (eqb-true k (metadataLength (layoutOf n)) q)))
 
 -- then the request is acted on
-pub serve-acts : (n : ℕ) (m request : List ℕ) (beside : Lent) → (regionOf n ≡ 0 → ⊥) → length m ≡ metadataLength (layoutOf n)
-    → serve n m request beside ≡ act (layoutOf n) m beside (parse request)
-unfolding serve
-serve-acts n m request beside some e = rw (right-lengths n (length m) some e)
+pub call-acts : (n : ℕ) (m request : List ℕ) (beside : Lent) {G : Layout} → judge n (length m) ≡ Laid G
+    → call n m request beside ≡ calledBy G m (act G m beside (parse request))
+unfolding call
+call-acts n m request beside e = rw e
 
--- what a caller sees of a call
-abbrev pub Seen : Call → Reply → List ℕ → List ℕ → Type 0
-Seen c answer metadata heap = (answer ≡ c .answer) × (metadata ≡ c .metadata) × (heap ≡ c .heap)
+-- and else refused
+pub call-unfit : (n : ℕ) (m request : List ℕ) (beside : Lent) {r : Refusal} → judge n (length m) ≡ Unfit r
+    → call n m request beside ≡ unserved m r
+unfolding call
+call-unfit n m request beside e = rw e
 
--- a call by the judgement
-module _ (h m request : List ℕ) (beside : Lent) where
-  pub call-unfit : {r : Refusal} → judge (length h) (length m) ≡ Unfit r → Seen (call h m request beside) (refusedBy r) m h
-  unfolding serve
-  call-unfit e = rw e (refl, refl, refl)
+-- what each way through an opening comes to
+module _ (n : ℕ) (m : List ℕ) (s : Setup) where
+  -- a length is not allowed
+  pub opening-unfit : {r : Refusal} → judge n (length m) ≡ Unfit r → opening n m s ≡ unserved m r
+  unfolding opening
+  opening-unfit e = rw e
 
-  pub call-acts : {G : Layout} {a : Reply} {m′ h′ : List ℕ} → judge (length h) (length m) ≡ Laid G
-      → Seen (calledBy G h m (act G m beside (parse request))) a m′ h′
-      → Seen (call h m request beside) a m′ h′
-  unfolding serve
-  call-acts {G} {a} {m′} {h′} e p =
-      rw e (subst (λ L. Seen (calledBy L h m (act G m beside (parse request))) a m′ h′) (laid-fits (length h) (length m) e .0) p)
+  module _ {G : Layout} (laid : judge n (length m) ≡ Laid G) where
+    -- the seeds are not
+    pub opening-unusable : isUnusable (s .seeds) ≡ true → opening n m s ≡ unserved m ZeroSeed
+    unfolding opening
+    opening-unusable e = rw (laid, e)
+
+    -- all is in order
+    pub opening-served : isUnusable (s .seeds) ≡ false → opening n m s ≡ openedBy G s
+    unfolding opening
+    opening-served e = rw (laid, e)
+
+  -- a served opening found a layout
+  module _ (e : opening n m s .answer .number ≡ 0) where
+    pub has-layout : regionOf n ≡ 0 → ⊥
+    has-layout z = refusal-number HeapLength (rw (opening-unfit (no-heap n (length m) z)) at e)
+
+    -- and left fresh metadata
+    pub opened-fresh : opening n m s .metadata ≡ fresh (layoutOf n) s
+    opened-fresh = elim (ℕ-discrete (length m) (metadataLength (layoutOf n))) [
+      | yes p ↦ seeded (isUnusable (s .seeds)) refl (right-lengths n (length m) has-layout p)
+      | no p ↦ absurd (refusal-number MetadataLength (rw (opening-unfit (other-length n (length m) has-layout p)) at e))
+    ]
+      where
+        seeded : (t : Bool) → isUnusable (s .seeds) ≡ t → judge n (length m) ≡ Laid (layoutOf n)
+            → opening n m s .metadata ≡ fresh (layoutOf n) s
+        seeded true q laid = absurd (refusal-number ZeroSeed (rw (opening-unusable laid q) at e))
+        seeded false q laid = rw (opening-served laid q)

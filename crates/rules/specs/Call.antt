@@ -1,29 +1,48 @@
--- What a call is to its caller: its answer, and what it leaves in the metadata and in the heap.
+-- What a call is to its caller: its answer, the metadata after it, and what it makes of the heap's bytes. The answer and
+-- the metadata depend on the heap's length alone.
 use Prim.Native.Nat.{ℕ}
-use mathlib.Core.List.{List, []}
+use mathlib.Core.List.{List, [], _∷_}
 use lib.ListN.{length}
+use Rattle.mwc.specs.Draw.{isUnusable}
 use Rattle.geometry.specs.declared.Layout.{Layout}
-use Rattle.geometry.specs.Layout.{layoutOf}
-use Rattle.answer.specs.Reply.{Reply}
-use Rattle.rules.specs.Open.{Setup, openReply, opened}
+use Rattle.request.specs.Parse.{parse}
+use Rattle.answer.specs.declared.Refusal.{Refusal}
+use Rattle.answer.specs.declared.Refusal.the-variants.{ZeroSeed}
+use Rattle.answer.specs.Reply.{Reply, served, refusedBy}
+use Rattle.answer.specs.Checks.{_when_, checked}
+use Rattle.rules.specs.Judge.{judge, onceLaid}
+use Rattle.rules.specs.Open.{Setup, fresh}
 use Rattle.rules.specs.Outcome.{Outcome, reply, metadataAfter, heapAfter}
-use Rattle.rules.specs.Serve.{Lent, lent, serve}
+use Rattle.rules.specs.Serve.{Lent, lent, act}
 
 pub record Call : Type 0 where
   pub answer : Reply
   pub metadata : List ℕ
-  pub heap : List ℕ
+  pub heap : List ℕ → List ℕ
 
--- an outcome on a heap and its metadata
-abbrev pub calledBy : Layout → List ℕ → List ℕ → Outcome → Call
-calledBy G h m o = record { answer = reply G o; metadata = metadataAfter G m o; heap = heapAfter G m h o }
+-- an outcome on metadata m
+abbrev pub calledBy : Layout → List ℕ → Outcome → Call
+calledBy G m o = record { answer = reply G o; metadata = metadataAfter G m o; heap = λ h. heapAfter G m h o }
 
--- a request's call, and an opening's, on a heap h and metadata m of any bytes and lengths
-abbrev pub call : List ℕ → List ℕ → List ℕ → Lent → Call
-call h m request beside = calledBy (layoutOf (length h)) h m (serve (length h) m request beside)
+-- what is refused changes nothing
+abbrev pub unserved : List ℕ → Refusal → Call
+unserved m r = record { answer = refusedBy r; metadata = m; heap = λ h. h }
 
-abbrev pub opening : List ℕ → List ℕ → Setup → Call
-opening h m s = record { answer = openReply (length h) (length m) s; metadata = opened (length h) m s; heap = h }
+-- a request's call, on metadata of any bytes and length: the lengths are judged, the request is read whole, and then it
+-- is carried out
+unfoldable pub call : ℕ → List ℕ → List ℕ → Lent → Call
+call heapBytes m request beside =
+    onceLaid (unserved m) (λ G. calledBy G m (act G m beside (parse request))) (judge heapBytes (length m))
+
+-- an opening: fresh metadata, and the heap's bytes as they are
+abbrev pub openedBy : Layout → Setup → Call
+openedBy G s = record { answer = served 0; metadata = fresh G s; heap = λ h. h }
+
+unfoldable pub opening : ℕ → List ℕ → Setup → Call
+opening heapBytes m s =
+    onceLaid (unserved m)
+    (λ G. checked (unserved m) (ZeroSeed when isUnusable (s .seeds) ∷ []) (openedBy G s))
+    (judge heapBytes (length m))
 
 -- ---- one request after another
 
@@ -37,7 +56,7 @@ stateOf heap metadata = record { heap = heap; metadata = metadata }
 
 -- a request's call there with nothing lent beside it, and what it leaves
 abbrev pub callOn : State → List ℕ → Call
-callOn s request = call (s .heap) (s .metadata) request (lent [])
+callOn s request = call (length (s .heap)) (s .metadata) request (lent [])
 
 abbrev pub stateAfter : State → List ℕ → State
-stateAfter s request = stateOf (callOn s request .heap) (callOn s request .metadata)
+stateAfter s request = stateOf (callOn s request .heap (s .heap)) (callOn s request .metadata)

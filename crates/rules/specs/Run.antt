@@ -28,7 +28,7 @@ pub record Step : Type 0 where
 
 abbrev pub stepOf : List ℕ → Entry → Step
 stepOf m e =
-    let c : Call = call (e .heap) m (e .request) (e .lent) in
+    let c : Call = call (length (e .heap)) m (e .request) (e .lent) in
     record { answer = c .answer; metadata = c .metadata }
 
 -- what can be seen of a run

@@ -1,15 +1,12 @@
--- Serving a request: the lengths are judged, the request is read whole, and then it is carried out.
+-- Carrying a request out, once it is read.
 use Prim.Native.Nat.{ℕ}
 use mathlib.Core.List.{List}
-use lib.ListN.{length}
 use Rattle.geometry.specs.declared.Layout.{Layout}
 use Rattle.request.specs.declared.Request.{Request}
 use Rattle.request.specs.declared.Request.the-variants.{Allocate, Free, Remaining, Copy}
 use Rattle.request.specs.declared.Parsed.{Parsed}
 use Rattle.request.specs.declared.Parsed.the-variants.{Whole, Malformed}
-use Rattle.request.specs.Parse.{parse}
 use Rattle.answer.specs.declared.Refusal.the-variants.{MalformedRequest}
-use Rattle.rules.specs.Judge.{judge, onceLaid}
 use Rattle.rules.specs.Outcome.{Outcome, refused}
 use Rattle.rules.specs.Allocate.{allocate}
 use Rattle.rules.specs.Object.{free, remaining, copy}
@@ -31,7 +28,3 @@ perform G m beside (Copy offset kind) = copy G m offset kind (beside .source)
 abbrev pub act : Layout → List ℕ → Lent → Parsed → Outcome
 act G m beside (Whole request) = perform G m beside request
 act G m beside Malformed = refused MalformedRequest
-
--- by the heap's length, the metadata, the request's bytes and what is lent beside them
-unfoldable pub serve : ℕ → List ℕ → List ℕ → Lent → Outcome
-serve heapBytes m request beside = onceLaid refused (λ G. act G m beside (parse request)) (judge heapBytes (length m))

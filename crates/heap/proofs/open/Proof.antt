@@ -1,8 +1,8 @@
--- `heap::open` meets its contract: a law of `Opening` for each return.
+-- `heap::open` meets its contract: a law of opening for each return.
 use borrow.Author.Needs.{needs}
-use mathlib.Core.Path.{_∙_, sym}
+use mathlib.Core.Path.{refl, sym, _∙_}
 use Rattle.rules.specs.Open.{setup}
-use Rattle.heap.proofs.Opening.{unfit, no-seed, written}
+use Rattle.rules.proofs.Serving.{laid-fits, opening-unfit, opening-unusable, opening-served}
 use Rattle.heap.proofs.open.Statement.{statement}
 use Rattle.heap.proofs.open.Tie as tie
 
@@ -22,7 +22,9 @@ returns : tie.Need-returns
 returns c =
     let judged = c .before .before .before .before in
     let a = judged .before .before .before .args in
-    no-seed (a .heap .now) (a .metadata .now) (setup (a .z) (a .w)) (sym (judged .lengths .ensures) ∙ c .before .before .enum-told .given .1) (sym (c .before .is-unusable .ensures) ∙ c .if1 .taken)
+    let laid = sym (judged .lengths .ensures) ∙ c .before .before .enum-told .given .1 in
+    rw (opening-unusable _ (a .metadata .now) (setup (a .z) (a .w)) laid (sym (c .before .is-unusable .ensures) ∙ c .if1 .taken))
+    (refl, refl)
 
 clear-requires : tie.Need-clear-requires
 clear-requires c κs = search needs
@@ -34,18 +36,24 @@ returns-2 : tie.Need-returns-2
 returns-2 c =
     let judged = c .before .before .before in
     let a = judged .before .before .before .args in
-    unfit (a .heap .now) (a .metadata .now) (setup (a .z) (a .w)) (sym (judged .lengths .ensures) ∙ c .before .refusal .given .1)
+    let unfit = sym (judged .lengths .ensures) ∙ c .before .refusal .given .1 in
+    rw (opening-unfit _ (a .metadata .now) (setup (a .z) (a .w)) unfit) (refl, refl)
 
 same-length : tie.Need-same-length
 same-length c = search needs
 
 returns-3 : tie.Need-returns-3
 returns-3 c =
-    let seeded = c .before .before .before .before .before .before .before .before in
+    let stored = c .before .before in
+    let cleared = stored .before .before .before .before in
+    let seeded = cleared .before .before in
     let judged = seeded .before .before .before .before in
     let a = judged .before .before .before .args in
-    rw (c .before .before .store .ensures)
-    (written (a .heap .now) (a .metadata .now) (setup (a .z) (a .w)) (sym (judged .lengths .ensures) ∙ seeded .before .before .enum-told .given .1) (sym (seeded .before .is-unusable .ensures) ∙ seeded .if1 .left) (c .before .before .before .before .before .before .clear .ensures))
+    let laid = sym (judged .lengths .ensures) ∙ seeded .before .before .enum-told .given .1 in
+    let usable = sym (seeded .before .is-unusable .ensures) ∙ seeded .if1 .left in
+    let fits = laid-fits _ _ laid .1 in
+    rw (opening-served _ (a .metadata .now) (setup (a .z) (a .w)) laid usable, stored .store .ensures, cleared .clear .ensures, fits .metadata)
+    (refl, refl)
 
 pub open-spec : {M : Type 1} → statement M
 open-spec =

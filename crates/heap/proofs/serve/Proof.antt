@@ -1,6 +1,6 @@
 -- `heap::serve` meets its contract, by the judgement of the lengths.
 use borrow.Author.Needs.{needs}
-use mathlib.Core.Path.{sym, _∙_}
+use mathlib.Core.Path.{refl, sym, _∙_}
 use Rattle.rules.proofs.Serving.{laid-fits, call-unfit, call-acts}
 use Rattle.heap.proofs.serve.Statement.{statement}
 use Rattle.heap.proofs.serve.Tie as tie
@@ -21,8 +21,8 @@ act-requires c κs =
 
 returns : tie.Need-returns
 returns c =
-    let judged = c .before .before .before in
-    call-unfit _ _ _ _ (sym (judged .lengths .ensures) ∙ c .before .refusal .given .1)
+    let unfit = sym (c .before .before .before .lengths .ensures) ∙ c .before .refusal .given .1 in
+    rw (call-unfit _ _ _ _ unfit) (refl, refl, refl)
 
 same-length : tie.Need-same-length
 same-length c = search needs
@@ -32,8 +32,9 @@ same-length-2 c = search needs
 
 returns-2 : tie.Need-returns-2
 returns-2 c =
-    let laid = c .before .before .before .before .before .before .before .before in
-    call-acts _ _ _ _ (sym (laid .before .before .lengths .ensures) ∙ laid .layout .given .1) (c .before .before .before .before .act .ensures)
+    let judged = c .before .before .before .before .before .before .before .before in
+    let laid = sym (judged .before .before .lengths .ensures) ∙ judged .layout .given .1 in
+    rw (call-acts _ _ _ _ laid) (c .before .before .before .before .act .ensures)
 
 pub serve-spec : {M : Type 1} → statement M
 serve-spec =
