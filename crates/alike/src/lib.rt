@@ -1,4 +1,5 @@
-// Whether two lists of bytes are the same: a definition and its laws, for the contracts and proofs of the crates above, and the comparing of lent bytes.
+// Whether two lists of bytes are the same: a definition and its laws, for the contracts and proofs of the crates above,
+// and the comparing of lent bytes.
 ghost use mathlib.Core.Path.{_≡_};
 ghost use Rattle.alike.specs.Alike.{alike};
 

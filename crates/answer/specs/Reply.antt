@@ -5,8 +5,8 @@ use Rattle.answer.specs.declared.Refusal.the-variants.{ZeroSeed, HeapLen
 use Rattle.answer.specs.declared.Answer.{Answer}
 use Rattle.answer.specs.declared.Answer.the-variants.{Served, Refused}
 
--- each refusal's number in the paper, whose words are: dead seed, wrong area, wrong book, spoilt ticket, no such size, closed class,
--- half full, off the area, no start, not live, bad ballot, no two alike
+-- each refusal's number in the paper, whose words are: dead seed, wrong area, wrong book, spoilt ticket, no such size,
+-- closed class, half full, off the area, no start, not live, bad ballot, no two alike
 abbrev pub numberOf : Refusal → ℕ
 numberOf ZeroSeed = 1
 numberOf HeapLength = 2

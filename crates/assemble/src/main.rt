@@ -11,7 +11,8 @@ ghost use Rattle.assemble.specs.Status.{statusAfter};
 
 const BAD_LINES: u8 = 1;
 
-// How many bytes of the input are held at a time. Each has room for a message, and the prover stops at arrays of more than 256 KiB.
+// How many bytes of the input are held at a time. Each has room for a message, and the prover stops at arrays of more
+// than 256 KiB.
 const INPUT: usize = 2048;
 
 // Writes requests and messages, and answers the status after them, or that an output cannot be written.

@@ -1,4 +1,5 @@
-// Replays requests from standard input on a heap with regions of 4,096 bytes, opened with z = 1 and w = 1, and prints a line for each.
+// Replays requests from standard input on a heap with regions of 4,096 bytes, opened with z = 1 and w = 1, and prints a
+// line for each.
 use libc::STDERR_FILENO;
 use program::DONE;
 use program::FAILED;

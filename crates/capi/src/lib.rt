@@ -1,4 +1,5 @@
-// The C interface (include/poheldu.h): a buffer passes as a pointer and a length. Each function only turns answers into numbers.
+// The C interface (include/poheldu.h): a buffer passes as a pointer and a length. Each function only turns answers into
+// numbers.
 ghost use mathlib.Core.Path.{_≡_};
 ghost use lib.ListN.{length};
 ghost use Rattle.answer.specs.Reply.{replyOf};

@@ -1,8 +1,10 @@
-// Runs cases from standard input: for each it opens a heap, serves requests on it, and prints a line for the opening and one for each request.
+// Runs cases from standard input: for each it opens a heap, serves requests on it, and prints a line for the opening
+// and one for each request.
 //
-// A case is a header of four little-endian words, the heap's length, z, w and a number of requests, and then the requests, of sixteen bytes
-// each. A heap length above 98,304 counts as 98,304, and a number of requests above 1,024 as 1,024. The heap's bytes stay as the case before
-// left them, and so does the metadata where an opening is refused. A header that is cut short ends the run.
+// A case is a header of four little-endian words, the heap's length, z, w and a number of requests, and then the
+// requests, of sixteen bytes each. A heap length above 98,304 counts as 98,304, and a number of requests above 1,024 as
+// 1,024. The heap's bytes stay as the case before left them, and so does the metadata where an opening is refused. A
+// header that is cut short ends the run.
 use geometry::Plan;
 use libc::STDIN_FILENO;
 use libc::STDOUT_FILENO;

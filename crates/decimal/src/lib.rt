@@ -37,7 +37,8 @@ fn of(n: u64) -> Digits
     Digits { text, start }
 }
 
-// Writes a number at a place, and answers the place after it. Where there may be no room for a number, nothing is written.
+// Writes a number at a place, and answers the place after it. Where there may be no room for a number, nothing is
+// written.
 pub fn put(out: &mut [u8], at: usize, n: u64) -> usize
     ensures { λ r.
         let text = decimalWithin (length (now (out .entry)) - at) n in

@@ -37,7 +37,8 @@ fn has_zero(source: &[u8]) -> bool
     found
 }
 
-// The index of the first zero byte of the first `count`; `count` where there is none. A block without one is passed over at once.
+// The index of the first zero byte of the first `count`; `count` where there is none. A block without one is passed
+// over at once.
 fn find_zero(source: &[u8], count: usize) -> usize
     requires { ⌜ count ≤ length (now source) ⌝ }
     ensures { λ r. ⌜ r ≡ min count (indexOf 0 (now (source .entry))) ⌝ }

@@ -59,7 +59,8 @@ after R m r = call (heapOf R) m r (lent []) .metadata
 
 -- ---- votes
 
--- a vote of k replicas on blocks of some size: the answer's number, mask and value, and then the output, which was FF hex throughout
+-- a vote of k replicas on blocks of some size: the answer's number, mask and value, and then the output, which was FF
+-- hex throughout
 unfoldable pub voting : List ℕ → ℕ → ℕ → ℕ → List ℕ
 voting blocks k size outputBytes =
     let d : Decision = decide blocks k size outputBytes in

@@ -1,4 +1,5 @@
--- Further worked examples: limits, edges, and metadata that no opening made. What is right was worked out from the paper, apart from the definitions.
+-- Further worked examples: limits, edges, and metadata that no opening made. What is right was worked out from the
+-- paper, apart from the definitions.
 use Prim.Native.Nat.{ℕ, _*_}
 use mathlib.Core.List.{List, [], _∷_, _++_}
 use lib.ListN.{drop, set, replicate}
@@ -71,7 +72,8 @@ further =
     ∷ row (answerTo 1_024 (clear 1_024 1 1) (requestBytes 4 0 1)) (4 ∷ 0 ∷ [])
     ∷ row (answerTo 1_024 (clear 1_024 1 1) (drop 1 (remaining 0))) (4 ∷ 0 ∷ [])
     ∷ row (answerTo 1_024 (clear 1_024 1 1) (remaining 0 ++ (0 ∷ []))) (4 ∷ 0 ∷ [])
-    -- openings: the shortest and the longest heap, half and twice that, no power of two, metadata a byte off, and seeds of 0
+    -- openings: the shortest and the longest heap, half and twice that, no power of two, metadata a byte off, and seeds
+    -- of 0
     ∷ row (opened 1_024 42 1 1) (0 ∷ 0 ∷ [])
     ∷ row (opened 1_048_576 32_768 1 1) (0 ∷ 0 ∷ [])
     ∷ row (opened 512 42 1 1) (2 ∷ 0 ∷ [])

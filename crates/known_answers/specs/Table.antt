@@ -26,7 +26,8 @@ start = opening (heapOf R) (replicate (metadataLength G) 0) (setup 1 1) .metadat
 unfoldable pub oneObject : List ℕ
 oneObject = after R start (allocate 5)
 
--- the answer to a request while that object is live, and then the 8 bytes at 640 and the one after them, which were FF hex
+-- the answer to a request while that object is live, and then the 8 bytes at 640 and the one after them, which were FF
+-- hex
 unfoldable pub copying : List ℕ → List ℕ → List ℕ
 copying r source =
     let c : Call = call (heapOf R) oneObject r (lent source) in

@@ -1,4 +1,5 @@
-// What a program's arguments ask for: its work, or its help text; and whether the launcher of programs/launch.c wants its status.
+// What a program's arguments ask for: its work, or its help text; and whether the launcher of programs/launch.c wants
+// its status.
 ghost use mathlib.Core.Path.{_≡_};
 ghost use Prim.Native.Nat.{_-_};
 ghost use Rattle.program.specs.Asked.{choiceOf, askedOf};

@@ -1,4 +1,5 @@
-// What the programs share: what their arguments ask for, input and output with a message where they fail, and the status that they end with.
+// What the programs share: what their arguments ask for, input and output with a message where they fail, and the
+// status that they end with.
 //
 // What is written, no contract can say.
 pub mod arguments;
@@ -41,8 +42,8 @@ pub fn read(input: &mut [u8], place: &[u8]) -> Got
     }
 }
 
-// Writes all of a text to standard output and answers true, or says that `place` failed and answers false. Which it is, the system decides, where
-// there is something to write.
+// Writes all of a text to standard output and answers true, or says that `place` failed and answers false. Which it is,
+// the system decides, where there is something to write.
 pub fn print(text: &[u8], place: &[u8]) -> bool
     ensures { λ r. ⌜ (length (now (text .entry)) ≡ 0 → r ≡ true) ⌝ }
 {

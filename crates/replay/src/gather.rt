@@ -1,4 +1,5 @@
-// Requests served as their bytes come: those that are whole at once, and the rest when the next bytes are there or the input has ended.
+// Requests served as their bytes come: those that are whole at once, and the rest when the next bytes are there or the
+// input has ended.
 ghost use mathlib.Core.Path.{_≡_};
 ghost use Prim.Native.Nat.{_+_, _<_, _≤_};
 ghost use lib.ListN.{length};
@@ -25,7 +26,8 @@ fn ready_len(len: usize, ended: bool) -> usize
     len / REQUEST * REQUEST
 }
 
-// Serves as `batch` does the whole requests of the bytes gathered, or all of them where the input has ended, and moves the rest to the front.
+// Serves as `batch` does the whole requests of the bytes gathered, or all of them where the input has ended, and moves
+// the rest to the front.
 pub fn serve(
     heap: &mut [u8],
     metadata: &mut [u8],

@@ -40,8 +40,8 @@ fn put_line(out: &mut [u8], number: u64, refusal: u32, value: u32) -> usize
     put_field(out, third, value as u64, b'\n')
 }
 
-// Serves a request with an empty source and writes its line at the front of the output. Where the output has no room for a line, nothing is
-// served or written, and the answer is 0.
+// Serves a request with an empty source and writes its line at the front of the output. Where the output has no room
+// for a line, nothing is served or written, and the answer is 0.
 pub fn step(
     heap: &mut [u8],
     metadata: &mut [u8],
@@ -96,8 +96,8 @@ pub struct Done {
     pub next: u64,
 }
 
-// Serves every request of the input with an empty source, and writes their lines one after another at the front of the output. Where the output
-// may be too short for the lines, or 64 bits for the numbers, nothing is served or written.
+// Serves every request of the input with an empty source, and writes their lines one after another at the front of the
+// output. Where the output may be too short for the lines, or 64 bits for the numbers, nothing is served or written.
 pub fn batch(
     heap: &mut [u8],
     metadata: &mut [u8],

@@ -1,5 +1,5 @@
--- Requests from any bytes (the paper's tickets). Sixteen bytes are four words: the operation, its size or offset, its count, and zero; an
--- operation is below 256, so its word is its byte with three zero bytes.
+-- Requests from any bytes (the paper's tickets). Sixteen bytes are four words: the operation, its size or offset, its
+-- count, and zero; an operation is below 256, so its word is its byte with three zero bytes.
 use Prim.Native.Nat.{ℕ}
 use mathlib.Core.List.{List, [], _∷_, _++_, map}
 use mathlib.Core.Bool.{Bool, _&&_, _||_, cond}

@@ -5,7 +5,8 @@ ghost use Rattle.request.specs.Parse.{operation, countAllowed, parse, re
 // The bytes of a request: four words.
 pub const SIZE: usize = 16;
 
-// What a copy writes: the source; the source through its first zero byte; or the source before it, and zeros up to a count.
+// What a copy writes: the source; the source through its first zero byte; or the source before it, and zeros up to a
+// count.
 pub enum Kind {
     Bytes,
     String,

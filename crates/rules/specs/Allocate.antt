@@ -14,7 +14,8 @@ use Rattle.rules.specs.declared.Found.{Found}
 use Rattle.rules.specs.Metadata.{generatorOf, bitmapOf}
 use Rattle.rules.specs.Outcome.{Outcome, refused, allocated}
 
--- up to k draws, of which the first that meets a clear slot takes it; then the next clear slot above the last one tested
+-- up to k draws, of which the first that meets a clear slot takes it; then the next clear slot above the last one
+-- tested
 unfoldable pub probe : List ℕ → ℕ → Generator → ℕ → ℕ → Found
 probe b n g last zero = record { slot = nextClear b n last; generator = g }
 probe b n g last (suc k) =

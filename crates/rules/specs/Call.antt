@@ -1,5 +1,5 @@
--- What a call is to its caller: its answer, the metadata after it, and what it makes of the heap's bytes. The answer and
--- the metadata depend on the heap's length alone.
+-- What a call is to its caller: its answer, the metadata after it, and what it makes of the heap's bytes. The answer
+-- and the metadata depend on the heap's length alone.
 use Prim.Native.Nat.{ℕ}
 use mathlib.Core.List.{List, [], _∷_}
 use lib.ListN.{length}

@@ -37,7 +37,8 @@ free G m offset =
     ∷ [])
     (freed (l .class) (l .slot))
 
--- the bytes from an offset to the end of the live object that it lies in; 0 where it lies in none (the paper's measured space)
+-- the bytes from an offset to the end of the live object that it lies in; 0 where it lies in none (the paper's measured
+-- space)
 unfoldable pub space : Layout → List ℕ → ℕ → ℕ
 space G m offset =
     let l : Location = locate G offset in
@@ -46,8 +47,9 @@ space G m offset =
 unfoldable pub remaining : Layout → List ℕ → ℕ → Outcome
 remaining G m offset = checked refused (ifPast G offset ∷ []) (told (space G m offset) offset [])
 
--- what a copy of each kind writes in a given room, from the first byte on (the paper's plain, text and counted copy): the source; the source
--- through its first zero byte, or to its end; the source before its first zero byte or end, and then zeros, count bytes in all
+-- what a copy of each kind writes in a given room, from the first byte on (the paper's plain, text and counted copy):
+-- the source; the source through its first zero byte, or to its end; the source before its first zero byte or end, and
+-- then zeros, count bytes in all
 abbrev pub writes : Kind → List ℕ → ℕ → List ℕ
 writes Bytes source room = take room source
 writes String source room = take room (take (suc (indexOf 0 source)) source)

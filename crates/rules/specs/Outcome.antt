@@ -1,5 +1,5 @@
--- What a request comes to, and what that means for its answer, the metadata and the heap. The answer and the metadata depend on the heap's
--- length alone, and not on its bytes.
+-- What a request comes to, and what that means for its answer, the metadata and the heap. The answer and the metadata
+-- depend on the heap's length alone, and not on its bytes.
 use Prim.Native.Nat.{ℕ}
 use mathlib.Core.List.{List}
 use Rattle.mwc.specs.declared.Generator.{Generator}

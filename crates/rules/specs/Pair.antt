@@ -19,8 +19,8 @@ Measures (Free offset) = ⊥
 Measures (Remaining offset) = Unit {0}
 Measures (Copy offset kind) = Unit {0}
 
--- two served allocations in one size class, two served frees at one offset, two served measurings or copies, in any mix, of one value, or two
--- refusals with one number
+-- two served allocations in one size class, two served frees at one offset, two served measurings or copies, in any
+-- mix, of one value, or two refusals with one number
 pub data Pair (G : Layout) (a b : Event) : Type 0 where
   allocations : (s t : ℕ) → a .asked ≡ Whole (Allocate s) → b .asked ≡ Whole (Allocate t) → classOf G s ≡ classOf G t → Served a → Served b → Pair G a b
   frees : (offset : ℕ) → a .asked ≡ Whole (Free offset) → b .asked ≡ Whole (Free offset) → Served a → Served b → Pair G a b

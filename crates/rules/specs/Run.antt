@@ -1,5 +1,5 @@
--- Runs of requests (the paper's runs of tickets): each request is lent a heap of the length opened with, holding any bytes whatever, and the
--- metadata as the request before left it.
+-- Runs of requests (the paper's runs of tickets): each request is lent a heap of the length opened with, holding any
+-- bytes whatever, and the metadata as the request before left it.
 use Prim.Native.Nat.{ℕ}
 use mathlib.Core.Path.{_≡_}
 use mathlib.Core.List.{List, [], _∷_}

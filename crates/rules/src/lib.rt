@@ -1,5 +1,5 @@
-// The rules of the heap: what opening and each request come to, and the theorem over whole runs. It has no code but types that the
-// definitions and the code share.
+// The rules of the heap: what opening and each request come to, and the theorem over whole runs. It has no code but
+// types that the definitions and the code share.
 use answer::Refusal;
 use geometry::Layout;
 use mwc::Generator;

@@ -1,5 +1,5 @@
-// Writing over bytes: the definition and its laws, for the contracts and proofs of the crates above, the one copy from lent bytes
-// to lent bytes, and the one move within lent bytes.
+// Writing over bytes: the definition and its laws, for the contracts and proofs of the crates above, the one copy from
+// lent bytes to lent bytes, and the one move within lent bytes.
 ghost use mathlib.Core.Path.{_≡_};
 ghost use Prim.Native.Nat.{_≤_};
 ghost use lib.ListN.{length, take, drop};
@@ -8,7 +8,8 @@ ghost use Rattle.writing.specs.Overwrite.{overwrite};
 // The longest part that becomes one block move.
 const LONGEST: usize = 16384;
 
-// Copies the whole source to the front of the target. By way of an array of its own: the compiler then knows that nothing overlaps and makes one block move.
+// Copies the whole source to the front of the target. By way of an array of its own: the compiler then knows that
+// nothing overlaps and makes one block move.
 fn block_move(source: &[u8], target: &mut [u8]) -> usize
     requires { ⌜ length (now source) ≤ length (now target) ⌝ }
     ensures { λ r. ⌜ r ≡ length (now (source .entry)) ⌝ }
