@@ -10,8 +10,8 @@ use lib.Seq.{take-append-le, drop-append-le}
 use Rattle.request.specs.Parse.{requestSize}
 use Rattle.rules.specs.Call.{State, stateAfter}
 use Rattle.replay.specs.Line.{lineRoom, lineFor}
-use Rattle.replay.specs.Batch.{Batch, behind, served, requests, batchOf}
-use Rattle.replay.specs.Pieces.{ready, rest, servedAll, servedIn}
+use Rattle.replay.specs.Batch.{Batch, behind, replay, requests, batchOf}
+use Rattle.replay.specs.Pieces.{ready, rest, replayAll, replayIn}
 use Rattle.replay.proofs.Replayed.{accepted-all, behind-both}
 
 -- no bytes
@@ -31,45 +31,45 @@ module _ (b : List ℕ) (j : ℕ) where
     fewer : length (drop requestSize a) ≡ requestSize * k
     fewer = rw length-drop (omega arith)
 
-  served-append : (k : ℕ) (a : List ℕ) (s : State) (number : ℕ) → length a ≡ requestSize * k
-      → let x = served k s number a in
-      served (k + j) s number (a ++ b) ≡ behind (x .text) (served j (x .state) (x .next) b)
-  unfolding served
-  served-append zero a s number e = rw (empty a e, zero-add)
-  served-append (suc k) a s number e =
-      let more = served-append k (drop requestSize a) (stateAfter s (take requestSize a)) (number + 1) (fewer k a e) in
+  replay-append : (k : ℕ) (a : List ℕ) (s : State) (number : ℕ) → length a ≡ requestSize * k
+      → let x = replay k s number a in
+      replay (k + j) s number (a ++ b) ≡ behind (x .text) (replay j (x .state) (x .next) b)
+  unfolding replay
+  replay-append zero a s number e = rw (empty a e, zero-add)
+  replay-append (suc k) a s number e =
+      let more = replay-append k (drop requestSize a) (stateAfter s (take requestSize a)) (number + 1) (fewer k a e) in
       rw (suc-add, first k a e, later k a e, more) (behind-both (lineFor s (take requestSize a) number) _ _)
 
 -- whole requests, and any bytes after them
-served-parts : (k : ℕ) (a b : List ℕ) → length a ≡ requestSize * k → (s : State) (number : ℕ)
-    → let x = servedAll s number a in
-    servedAll s number (a ++ b) ≡ behind (x .text) (servedAll (x .state) (x .next) b)
-served-parts k a b whole s number =
+replay-parts : (k : ℕ) (a b : List ℕ) → length a ≡ requestSize * k → (s : State) (number : ℕ)
+    → let x = replayAll s number a in
+    replayAll s number (a ++ b) ≡ behind (x .text) (replayAll (x .state) (x .next) b)
+replay-parts k a b whole s number =
     let count : requests a ≡ k = omega arith in
     let counts : requests (a ++ b) ≡ k + requests b = rw length-append (omega arith) in
-    rw (counts, count) (served-append b (requests b) k a s number whole)
+    rw (counts, count) (replay-append b (requests b) k a s number whole)
 
 -- a piece after what was kept: what is ready of both, and what is kept with all that comes later
-served-in : (pieces : List (List ℕ)) (s : State) (number : ℕ) (kept : List ℕ)
-    → servedIn s number kept pieces ≡ servedAll s number (kept ++ flatten pieces)
-unfolding servedIn flatten
-served-in [] s number kept = rw append-nil
-served-in (piece ∷ more) s number kept =
+replay-in : (pieces : List (List ℕ)) (s : State) (number : ℕ) (kept : List ℕ)
+    → replayIn s number kept pieces ≡ replayAll s number (kept ++ flatten pieces)
+unfolding replayIn flatten
+replay-in [] s number kept = rw append-nil
+replay-in (piece ∷ more) s number kept =
     let both : List ℕ = kept ++ piece in
     let whole : length (ready false both) ≡ requestSize * (length both / requestSize) = rw length-take (omega arith) in
-    let b : Batch = servedAll s number (ready false both) in
+    let b : Batch = replayAll s number (ready false both) in
     let cut : kept ++ (piece ++ flatten more) ≡ ready false both ++ (rest false both ++ flatten more) =
     sym (append-assoc kept piece _) ∙ rw (← append-assoc, take-append-drop) in
-    ap (behind (b .text)) (served-in more (b .state) (b .next) (rest false both))
-    ∙ sym (ap (servedAll s number) cut ∙ served-parts (length both / requestSize) (ready false both) _ whole s number)
+    ap (behind (b .text)) (replay-in more (b .state) (b .next) (rest false both))
+    ∙ sym (ap (replayAll s number) cut ∙ replay-parts (length both / requestSize) (ready false both) _ whole s number)
 
 -- however an input is cut, its lines and the state after it are those of the whole
 pub however-cut : (pieces : List (List ℕ)) (s : State) (number : ℕ)
-    → servedIn s number [] pieces ≡ servedAll s number (flatten pieces)
-however-cut pieces s number = served-in pieces s number []
+    → replayIn s number [] pieces ≡ replayAll s number (flatten pieces)
+however-cut pieces s number = replay-in pieces s number []
 
 -- where there is room for the lines and for their numbers, a batch serves all requests
 pub batch-all : (room number : ℕ) (s : State) (bytes : List ℕ) → requests bytes * lineRoom ≤ room
     → number + requests bytes < 2 ^ 64
-    → batchOf room s number bytes ≡ servedAll s number bytes
+    → batchOf room s number bytes ≡ replayAll s number bytes
 batch-all room number s bytes lines numbers = rw (← accepted-all room number bytes lines numbers)

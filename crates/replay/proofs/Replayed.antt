@@ -13,7 +13,7 @@ use Rattle.writing.specs.Overwrite.{overwrite}
 use Rattle.request.specs.Parse.{requestSize}
 use Rattle.replay.specs.Line.{lineRoom, lineFor}
 use Rattle.rules.specs.Call.{State, stateOf, stateAfter}
-use Rattle.replay.specs.Batch.{Batch, behind, served, requests, accepted, batchOf}
+use Rattle.replay.specs.Batch.{Batch, behind, replay, requests, accepted, batchOf}
 use Rattle.writing.proofs.Writing.{Wrote, wrote-then, wrote-from, wrote-length}
 
 module _ (room number : ℕ) (input : List ℕ) where
@@ -64,14 +64,14 @@ pub behind-both : (x y : List ℕ) (b : Batch) → behind x (behind y b) ≡ beh
 behind-both x y b = rw append-assoc
 
 -- one of the requests that are left is served
-served-more : (left : ℕ) (now : State) (next : ℕ) (input : List ℕ) → 0 < left
+replay-more : (left : ℕ) (now : State) (next : ℕ) (input : List ℕ) → 0 < left
     → let request = take requestSize input in
-    served left now next input
-    ≡ behind (lineFor now request next) (served (left - 1) (stateAfter now request) (next + 1) (drop requestSize input))
-unfolding served
-served-more left now next input some =
+    replay left now next input
+    ≡ behind (lineFor now request next) (replay (left - 1) (stateAfter now request) (next + 1) (drop requestSize input))
+unfolding replay
+replay-more left now next input some =
     let one-more : left ≡ suc (left - 1) = omega arith in
-    ap (λ (k : ℕ). served k now next input) one-more
+    ap (λ (k : ℕ). replay k now next input) one-more
 
 -- part of a batch is served and `text` written: `left` requests from `at` on are left, numbered from `next` on
 pub record Replayed (before : State) (number : ℕ) (input out₀ : List ℕ) (now : State) (out : List ℕ)
@@ -79,7 +79,7 @@ pub record Replayed (before : State) (number : ℕ) (input out₀ : List ℕ) (n
   pub text : List ℕ
   pub wrote : Wrote out₀ out 0 text
   pub size : written ≡ length text
-  pub rest : batchOf (length out₀) before number input ≡ behind text (served left now next (drop at input))
+  pub rest : batchOf (length out₀) before number input ≡ behind text (replay left now next (drop at input))
   pub within : at ≤ length input
   pub room : written + left * lineRoom ≤ length out
   pub numbers : next + left < 2 ^ 64
@@ -111,7 +111,7 @@ module _ {before : State} {number : ℕ} {input out₀ : List ℕ} where
     -- all is served
     pub replayed-all : left ≤ 0
         → batchOf (length out₀) before number input ≡ record { text = p .text; state = now; next = next }
-    unfolding served
+    unfolding replay
     replayed-all h =
         let none : left ≡ 0 = omega arith in
         p .rest ∙ rw (none, append-nil)
@@ -136,7 +136,7 @@ module _ {before : State} {number : ℕ} {input out₀ : List ℕ} where
           size = rw (length-append, size, p .size);
           rest =
               p .rest
-              ∙ rw (served-more left now next (drop at input) some, state, request-rest input at end e)
+              ∙ rw (replay-more left now next (drop at input) some, state, request-rest input at end e)
               (behind-both (p .text) line _);
           within = omega arith;
           room = omega (arith, wrote-length all);

@@ -19,11 +19,11 @@ abbrev pub behind : List ℕ → Batch → Batch
 behind text b = record { text = text ++ b .text; state = b .state; next = b .next }
 
 -- the first k requests of an input, their lines numbered from a number on
-unfoldable pub served : ℕ → State → ℕ → List ℕ → Batch
-served zero s number input = record { text = []; state = s; next = number }
-served (suc k) s number input =
+unfoldable pub replay : ℕ → State → ℕ → List ℕ → Batch
+replay zero s number input = record { text = []; state = s; next = number }
+replay (suc k) s number input =
     let request : List ℕ = take requestSize input in
-    behind (lineFor s request number) (served k (stateAfter s request) (number + 1) (drop requestSize input))
+    behind (lineFor s request number) (replay k (stateAfter s request) (number + 1) (drop requestSize input))
 
 -- how many requests an input has: sixteen bytes each, the last perhaps shorter
 abbrev pub requests : List ℕ → ℕ
@@ -36,7 +36,7 @@ accepted room number input =
 
 -- what a batch comes to
 abbrev pub batchOf : ℕ → State → ℕ → List ℕ → Batch
-batchOf room s number input = served (accepted room number input) s number input
+batchOf room s number input = replay (accepted room number input) s number input
 
 -- what one request comes to; nothing where `room` bytes have no room for a line
 abbrev pub stepOf : ℕ → State → ℕ → List ℕ → Batch

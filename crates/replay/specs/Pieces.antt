@@ -5,7 +5,7 @@ use mathlib.Core.List.{List, [], _∷_, _++_}
 use lib.ListN.{length, take, drop}
 use Rattle.request.specs.Parse.{requestSize}
 use Rattle.rules.specs.Call.{State}
-use Rattle.replay.specs.Batch.{Batch, behind, served, requests}
+use Rattle.replay.specs.Batch.{Batch, behind, replay, requests}
 
 -- how many of n bytes are served: those of whole requests, or all where the input has ended
 abbrev pub readyLength : Bool → ℕ → ℕ
@@ -19,13 +19,13 @@ abbrev pub rest : Bool → List ℕ → List ℕ
 rest ended bytes = drop (readyLength ended (length bytes)) bytes
 
 -- all requests of some bytes, their lines numbered from a number on
-abbrev pub servedAll : State → ℕ → List ℕ → Batch
-servedAll s number bytes = served (requests bytes) s number bytes
+abbrev pub replayAll : State → ℕ → List ℕ → Batch
+replayAll s number bytes = replay (requests bytes) s number bytes
 
 -- whole requests are served as their pieces come, what is kept goes before the next piece, and what is left at the end
 -- is served
-unfoldable pub servedIn : State → ℕ → List ℕ → List (List ℕ) → Batch
-servedIn s number kept [] = servedAll s number kept
-servedIn s number kept (piece ∷ more) =
-    let b : Batch = servedAll s number (ready false (kept ++ piece)) in
-    behind (b .text) (servedIn (b .state) (b .next) (rest false (kept ++ piece)) more)
+unfoldable pub replayIn : State → ℕ → List ℕ → List (List ℕ) → Batch
+replayIn s number kept [] = replayAll s number kept
+replayIn s number kept (piece ∷ more) =
+    let b : Batch = replayAll s number (ready false (kept ++ piece)) in
+    behind (b .text) (replayIn (b .state) (b .next) (rest false (kept ++ piece)) more)
