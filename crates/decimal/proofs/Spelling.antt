@@ -42,7 +42,8 @@ module _ {n : ℕ} {text : List ℕ} {start rest : ℕ} (s : Spelled n text star
   put g = rw (s .zeros) (set-at (replicate start 0) 0 (s .tail) g start (length-replicate start 0))
 
   -- the last digit
-  pub spelled-all : {g : ℕ} → rest ≤ 9 → g ≡ 48 + rest → (set text start g ≡ replicate start 0 ++ decimal n) × (start + length (decimal n) ≡ width)
+  pub spelled-all : {g : ℕ} → rest ≤ 9 → g ≡ 48 + rest
+      → (set text start g ≡ replicate start 0 ++ decimal n) × (start + length (decimal n) ≡ width)
   spelled-all {g} h e =
       let d : decimal n ≡ g ∷ s .tail = s .number ∙ rw (one-digit start rest (omega arith), e) in
       (rw d (put g), rw d (s .size))
@@ -75,4 +76,6 @@ module _ {text : List ℕ} (n start : ℕ) (e : text ≡ replicate start 0 ++ de
   digits-length = rw e (simp (length-append, length-replicate) f)
 
   pub digits-part : take (width - start) (drop start text) ≡ decimal n
-  digits-part = rw (e, drop-at (replicate start 0) (decimal n) start (length-replicate start 0)) (take-all (width - start) (decimal n) (omega arith))
+  digits-part =
+      rw (e, drop-at (replicate start 0) (decimal n) start (length-replicate start 0))
+      (take-all (width - start) (decimal n) (omega arith))

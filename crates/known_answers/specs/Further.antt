@@ -21,7 +21,7 @@ firstSet = set (clear 4_096 0 0) 128 0x0b
 unfoldable pub atCapacity : List ℕ
 atCapacity = set (clear 4_096 0x9069 0x4650) 136 0x01
 
--- ---- regions of 1,024 bytes: class 5 has 4 slots (byte 39), class 7 has 1 (byte 41, heap from 7,168), class 8 none (heap from 8,192)
+-- ---- regions of 1,024 bytes: class 5 has 4 slots (byte 39), class 7 one (byte 41, heap from 7,168), class 8 none
 
 -- bits beyond the slots of class 5, and one of a slot
 unfoldable pub strayBits : List ℕ

@@ -40,5 +40,7 @@ probe-le b n h g last zero = next-le b n last
 probe-le b n h g last (suc k) =
     let i : ℕ = drawn (next g) % n in
     let below : i < n = mod-lt (drawn (next g)) h in
-    elim (isSet b n i) as (λ (t : Bool). (elim t as (λ (u : Bool). Found) [ true ↦ probe b n (next g) i k | false ↦ record { slot = i; generator = next g } ]) .slot ≤ n)
+    let chosen : Bool → Found =
+    λ t. elim t as (λ (u : Bool). Found) [ true ↦ probe b n (next g) i k | false ↦ record { slot = i; generator = next g } ] in
+    elim (isSet b n i) as (λ (t : Bool). chosen t .slot ≤ n)
     [ true ↦ probe-le b n h (next g) i k | false ↦ omega arith ]

@@ -15,7 +15,13 @@ use Rattle.request.specs.declared.Parsed.the-variants.{Whole, Malformed}
 -- in the order of their numbers; the paper's place, free, measure, plain copy, text copy and counted copy
 abbrev pub operations : ℕ → ℕ → List Request
 operations argument count =
-    Allocate argument ∷ Free argument ∷ Remaining argument ∷ Copy argument Bytes ∷ Copy argument String ∷ Copy argument (Padded count) ∷ []
+    Allocate argument
+    ∷ Free argument
+    ∷ Remaining argument
+    ∷ Copy argument Bytes
+    ∷ Copy argument String
+    ∷ Copy argument (Padded count)
+    ∷ []
 
 abbrev pub operation : ℕ → ℕ → ℕ → Parsed
 operation code argument count = getD (map Whole (operations argument count)) code Malformed
@@ -32,7 +38,9 @@ unfoldable pub parse : List ℕ → Parsed
 parse b =
     let code : ℕ = wordAt b 0 in
     let count : ℕ = wordAt b 8 in
-    cond (eqb (length b) requestSize && eqb (wordAt b 12) 0 && countAllowed code count) (operation code (wordAt b 4) count) Malformed
+    cond (eqb (length b) requestSize && eqb (wordAt b 12) 0 && countAllowed code count)
+    (operation code (wordAt b 4) count)
+    Malformed
 
 -- the bytes of a request
 abbrev pub requestBytes : ℕ → ℕ → ℕ → List ℕ

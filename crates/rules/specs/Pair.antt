@@ -22,8 +22,10 @@ Measures (Copy offset kind) = Unit {0}
 -- two served allocations in one size class, two served frees at one offset, two served measurings or copies, in any
 -- mix, of one value, or two refusals with one number
 pub data Pair (G : Layout) (a b : Event) : Type 0 where
-  allocations : (s t : ℕ) → a .asked ≡ Whole (Allocate s) → b .asked ≡ Whole (Allocate t) → classOf G s ≡ classOf G t → Served a → Served b → Pair G a b
-  frees : (offset : ℕ) → a .asked ≡ Whole (Free offset) → b .asked ≡ Whole (Free offset) → Served a → Served b → Pair G a b
+  allocations : (s t : ℕ) → a .asked ≡ Whole (Allocate s) → b .asked ≡ Whole (Allocate t) → classOf G s ≡ classOf G t
+      → Served a → Served b → Pair G a b
+  frees : (offset : ℕ) → a .asked ≡ Whole (Free offset) → b .asked ≡ Whole (Free offset) → Served a → Served b
+      → Pair G a b
   measurings : (q r : Request) → a .asked ≡ Whole q → b .asked ≡ Whole r → Measures q → Measures r → Served a → Served b
       → a .answer .value ≡ b .answer .value → Pair G a b
   refusals : (Served a → ⊥) → a .answer .number ≡ b .answer .number → Pair G a b

@@ -43,4 +43,5 @@ pub record Event : Type 0 where
 
 unfoldable pub history : List ℕ → List Entry → List Event
 history m [] = []
-history m (e ∷ es) = record { asked = parse (e .request); answer = stepOf m e .answer } ∷ history (stepOf m e .metadata) es
+history m (e ∷ es) =
+    record { asked = parse (e .request); answer = stepOf m e .answer } ∷ history (stepOf m e .metadata) es

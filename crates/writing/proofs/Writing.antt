@@ -53,7 +53,8 @@ pub text-put : (out d dst : List ℕ) (at n : ℕ) {w src : List ℕ} → w ≡ 
 text-put out d dst at n p e f g = rw (p, e, g, take-length d, drop-of-length-le dst (le-of-eq f), append-nil d)
 
 -- a text at the front of all that lies from a place on
-pub wrote-from : (out line : List ℕ) (a : ℕ) {w : List ℕ} → w ≡ overwrite (take (length out - a) (drop a out)) 0 line → a + length line ≤ length out
+pub wrote-from : (out line : List ℕ) (a : ℕ) {w : List ℕ} → w ≡ overwrite (take (length out - a) (drop a out)) 0 line
+    → a + length line ≤ length out
     → Wrote out (take a out ++ (w ++ drop (length out - a) (drop a out))) a line
 wrote-from out line a p h =
     let all : length (drop a out) ≤ length out - a = le-of-eq (length-drop a out) in

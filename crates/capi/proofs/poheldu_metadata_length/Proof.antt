@@ -12,7 +12,9 @@ returns : tie.Need-returns
 returns c = rw (eq-eqb (regionOf (c .before .before .before .args .heap-len)) 0 (rw (c .before .before .of .ensures) at (c .if1 .taken)))
 
 returns-2 : tie.Need-returns-2
-returns-2 c = rw (ne-eqb (regionOf (c .before .before .before .args .heap-len)) 0 (rw (c .before .before .of .ensures) at (c .if1 .left)), c .before .before .of .ensures)
+returns-2 c =
+    let of = c .before .before .of .ensures in
+    rw (ne-eqb (regionOf (c .before .before .before .args .heap-len)) 0 (rw of at (c .if1 .left)), of)
 
 pub poheldu-metadata-length-spec : {M : Type 1} → statement M
 poheldu-metadata-length-spec = tie.close (tie.spec of-requires returns returns-2)

@@ -44,7 +44,8 @@ part-copy-start c = search needs
 part-copy-end : tie.Need-part-copy-end
 part-copy-end c =
     let d = c .before .before .of in
-    le-of-eq (sym (digits-length (c .before .before .before .before .before .before .args .n) (d .result .start) (d .ensures .0) (d .ensures .1)))
+    let n = c .before .before .before .before .before .before .args .n in
+    le-of-eq (sym (digits-length n (d .result .start) (d .ensures .0) (d .ensures .1)))
 
 sub-copy-2 : tie.Need-sub-copy-2
 sub-copy-2 c = search needs
@@ -71,8 +72,11 @@ returns-3 c =
     let part = midOf (a .at) count (a .out .now) in
     let room : length part ≡ length (decimal (a .n)) = simp (length-take, length-drop) (omega arith) in
     let digits = digits-part (a .n) (d .result .start) (d .ensures .0) (d .ensures .1) in
-    rw (le-leb width (length (a .out .now) - a .at) (omega arith))
-    ((omega arith, omega arith), text-put (a .out .now) (decimal (a .n)) part (a .at) count (c .before .before .copy .ensures .1) digits room (sym size))
+    rw (le-leb width (length (a .out .now) - a .at) (omega arith)) (
+      (omega arith, omega arith),
+      text-put (a .out .now) (decimal (a .n)) part (a .at) count
+          (c .before .before .copy .ensures .1) digits room (sym size),
+    )
 
 pub put-spec : {M : Type 1} → statement M
 put-spec =

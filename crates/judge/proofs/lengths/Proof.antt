@@ -26,7 +26,8 @@ returns-2 c =
 returns-3 : tie.Need-returns-3
 returns-3 c =
     let plan = c .before .before .before .before .before in
-    rw (plan .of .ensures) (sym (right-lengths (plan .before .args .heap-len) _ (some (c .before .before)) (rw (plan .of .ensures) at (c .if2 .left))))
+    let right = rw (plan .of .ensures) at (c .if2 .left) in
+    rw (plan .of .ensures) (sym (right-lengths (plan .before .args .heap-len) _ (some (c .before .before)) right))
 
 pub lengths-spec : {M : Type 1} → statement M
 lengths-spec = tie.close (tie.spec of-requires returns returns-2 returns-3)

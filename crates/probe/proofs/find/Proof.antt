@@ -9,7 +9,8 @@ use Rattle.probe.proofs.find.Statement.{statement}
 use Rattle.probe.proofs.find.Tie as tie
 
 abbrev Inv-loop : tie.InvT-loop
-Inv-loop bitmap slots generator₀ last₀ left₀ generator last left = probe bitmap slots generator₀ last₀ left₀ ≡ probe bitmap slots generator last left
+Inv-loop bitmap slots generator₀ last₀ left₀ generator last left =
+    probe bitmap slots generator₀ last₀ left₀ ≡ probe bitmap slots generator last left
 
 abbrev μ-loop : tie.MeasureT-loop
 μ-loop bitmap slots generator₀ last₀ left₀ generator last left = left
@@ -38,7 +39,8 @@ returns c =
     let slot = rw (drew .wide .ensures .0, drew .before .draw .ensures) at (c .before .before .remainder .ensures) in
     sym
     (drew .before .before .before .before .loop .inv
-    ∙ probe-hit _ _ _ _ (drew .before .before .advance .ensures) slot (omega arith) (sym (c .before .is-set .ensures) ∙ not-true _ (c .if1 .taken)))
+    ∙ probe-hit _ _ _ _ (drew .before .before .advance .ensures) slot (omega arith)
+    (sym (c .before .is-set .ensures) ∙ not-true _ (c .if1 .taken)))
 
 sub-left : tie.Need-sub-left Inv-loop μ-loop
 sub-left c = omega arith
@@ -51,7 +53,8 @@ loop-again c =
     let drew = c .before .before .before in
     let slot = rw (drew .wide .ensures .0, drew .before .draw .ensures) at (c .before .before .remainder .ensures) in
     drew .before .before .before .before .loop .inv
-    ∙ probe-miss _ _ _ _ (drew .before .before .advance .ensures) slot (omega arith) (sym (c .before .is-set .ensures) ∙ not-false _ (c .if1 .left))
+    ∙ probe-miss _ _ _ _ (drew .before .before .advance .ensures) slot (omega arith)
+    (sym (c .before .is-set .ensures) ∙ not-false _ (c .if1 .left))
 
 next-clear-requires : tie.Need-next-clear-requires Inv-loop μ-loop
 next-clear-requires c κs = search needs

@@ -11,7 +11,8 @@ use Rattle.replay.proofs.batch.Tie as tie
 
 abbrev Inv-loop : tie.InvT-loop
 Inv-loop heap₀ metadata₀ input number out₀ left₀ next₀ at₀ written₀ heap metadata out left next at written =
-    Replayed (record { heap = heap₀; metadata = metadata₀ }) number input out₀ (record { heap = heap; metadata = metadata }) out left next at written
+    Replayed (record { heap = heap₀; metadata = metadata₀ }) number input out₀
+    (record { heap = heap; metadata = metadata }) out left next at written
 
 abbrev μ-loop : tie.MeasureT-loop
 μ-loop heap₀ metadata₀ input number out₀ left₀ next₀ at₀ written₀ heap metadata out left next at written =
@@ -66,7 +67,8 @@ loop-again c =
     let end = stepped .before .before .before .before .before .request-end in
     let l = stepped .before .before .before .before .before .before .before .loop in
     let s = stepped .step in
-    let room : lineRoom ≤ length (take (length (l .out) - l .written) (drop (l .written) (l .out))) = simp (length-take, length-drop) (omega arith) in
+    let room : lineRoom ≤ length (take (length (l .out) - l .written) (drop (l .written) (l .out))) =
+    simp (length-take, length-drop) (omega arith) in
     let e = rw (request-part _ (l .at) (end .result) (end .ensures), le-leb lineRoom _ room) at (s .ensures) in
     replayed-more (l .inv) (omega arith) (end .ensures) (e .0 .0) (e .1 .1) (e .0 .1) (e .0 .2) (s .kept .1 .0) (s .kept .0)
 

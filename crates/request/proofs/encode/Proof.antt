@@ -26,7 +26,8 @@ returns : tie.Need-returns
 returns c =
     let second = c .before .before .before .before in
     let a = second .before .before .before .before .before .args in
-    words-stored (a .code) (a .argument) (a .count) (second .before .before .before .put .ensures) (second .put2 .ensures) (c .before .put3 .ensures)
+    words-stored (a .code) (a .argument) (a .count) (second .before .before .before .put .ensures)
+    (second .put2 .ensures) (c .before .put3 .ensures)
 
 pub encode-spec : {M : Type 1} → statement M
 encode-spec =

@@ -41,7 +41,8 @@ returns-4 : tie.Need-returns-4
 returns-4 c =
     let count = c .before .before .before .before in
     c .of-operation .ensures
-    ∙ whole _ (omega arith) (count .before .before .before .get .ensures) (omega arith) (count .before .get2 .ensures) (count .get3 .ensures) (c .before .get4 .ensures)
+    ∙ whole _ (omega arith) (count .before .before .before .get .ensures) (omega arith) (count .before .get2 .ensures)
+    (count .get3 .ensures) (c .before .get4 .ensures)
     (sym (c .before .before .before .count-allowed .ensures) ∙ not-false _ (c .before .before .if3 .left))
 
 pub read-spec : {M : Type 1} → statement M

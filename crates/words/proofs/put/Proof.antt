@@ -54,7 +54,8 @@ same-length c = search needs
 returns-3 : tie.Need-returns-3
 returns-3 c =
     let a = c .before .before .before .before .before .before .before .args in
-    stored (a .b .now) (a .at) (a .n) (omega arith) (c .before .before .before .low .ensures) (c .before .before .low2 .ensures) (c .before .low3 .ensures) (c .low4 .ensures)
+    stored (a .b .now) (a .at) (a .n) (omega arith) (c .before .before .before .low .ensures)
+    (c .before .before .low2 .ensures) (c .before .low3 .ensures) (c .low4 .ensures)
 
 pub put-spec : {M : Type 1} → statement M
 put-spec =

@@ -42,7 +42,8 @@ returns-2 c =
     let filled = c .before .before .before .before .before .before .before in
     let a = filled .before .before .before .before .before .args in
     let copied = filled .copy2 in
-    moved-through (a .source .now) (a .target .now) (replicate 16384 0) (copied .ensures .1) (c .before .before .copy3 .ensures .0) (c .before .before .copy3 .ensures .1)
+    moved-through (a .source .now) (a .target .now) (replicate 16384 0) (copied .ensures .1)
+    (c .before .before .copy3 .ensures .0) (c .before .before .copy3 .ensures .1)
 
 pub block-move-spec : {M : Type 1} → statement M
 block-move-spec =

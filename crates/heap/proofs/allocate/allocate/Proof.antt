@@ -43,7 +43,8 @@ count-requires c κs =
 counted : (c : tie.After-count)
     → let part = c .before .before .before .before .before in
     let a = part .before .before .before .before .before .args in
-    c .count .result ≡ countSet (bitmapOf (a .layout) (part .before .before .before .class-of .result) (a .metadata .now)) (part .part .result .slots)
+    let class = part .before .before .before .class-of .result in
+    c .count .result ≡ countSet (bitmapOf (a .layout) class (a .metadata .now)) (part .part .result .slots)
 counted c = c .count .ensures ∙ rw (part-bits _ _ (c .before .before .before .before .before .part .ensures) _)
 
 same-length : tie.Need-same-length
@@ -53,12 +54,14 @@ returns-4 : tie.Need-returns-4
 returns-4 c =
     let part = c .before .before .before .before .before .before in
     let sized = part .before .before in
-    rw (at-capacity _ _ _ (sized .if1 .left) (sized .before .class-of .ensures) (omega arith) (slots-are part) (omega arith) (counted (c .before)) (c .if4 .taken)) (refl, refl)
+    rw (at-capacity _ _ _ (sized .if1 .left) (sized .before .class-of .ensures) (omega arith) (slots-are part)
+    (omega arith) (counted (c .before)) (c .if4 .taken)) (refl, refl)
 
 take-requires : tie.Need-take-requires
 take-requires c κs =
     let part = c .before .before .before .before .before .before .before in
-    (part .before .before .before .before .before .pre, record { class = omega arith; some = omega (arith, slots-are part); of = part .part .ensures })
+    let sized = slots-are part in
+    (part .before .before .before .before .before .pre, record { class = omega arith; some = omega arith; of = part .part .ensures })
 
 same-length-2 : tie.Need-same-length-2
 same-length-2 c = search needs
@@ -68,7 +71,8 @@ returns-5 c =
     let tested = c .before .before .before .before in
     let part = tested .before .before .before .before .before .before in
     let sized = part .before .before in
-    rw (roomy _ _ _ (sized .if1 .left) (sized .before .class-of .ensures) (omega arith) (slots-are part) (omega arith) (counted (tested .before)) (tested .if4 .left))
+    rw (roomy _ _ _ (sized .if1 .left) (sized .before .class-of .ensures) (omega arith) (slots-are part) (omega arith)
+    (counted (tested .before)) (tested .if4 .left))
     (c .before .before .take .ensures)
 
 pub allocate-spec : {M : Type 1} → statement M

@@ -18,10 +18,14 @@ mul-result-2 : tie.Need-mul-result-2
 mul-result-2 c = rw (c .slot-size .ensures) (omega (arith, slot-start-le _ (c .before .before .pre .1) (c .before .before .pre .2)))
 
 add-result : tie.Need-add-result
-add-result c = rw (c .slot-size .ensures, c .before .wide .ensures .0) (omega (arith, slot-start-le _ (c .before .before .pre .1) (c .before .before .pre .2)))
+add-result c =
+    rw (c .slot-size .ensures, c .before .wide .ensures .0)
+    (omega (arith, slot-start-le _ (c .before .before .pre .1) (c .before .before .pre .2)))
 
 cast-result : tie.Need-cast-result
-cast-result c = rw (c .slot-size .ensures, c .before .wide .ensures .0) (omega (arith, slot-start-le _ (c .before .before .pre .1) (c .before .before .pre .2)))
+cast-result c =
+    rw (c .slot-size .ensures, c .before .wide .ensures .0)
+    (omega (arith, slot-start-le _ (c .before .before .pre .1) (c .before .before .pre .2)))
 
 returns : tie.Need-returns
 returns c = cc

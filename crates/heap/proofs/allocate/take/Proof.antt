@@ -32,7 +32,9 @@ returns : tie.Need-returns
 returns c =
     let found = c .before .before .before .before .before .before .before .before .before in
     let p = found .before .before .before .before .pre in
-    taken-done _ _ _ (p .1 .of) (found .before .generator .ensures) (found .find .ensures) (c .slot-start .ensures) (c .before .before .before .before .before .before .before .set .ensures) (c .before .before .before .store .ensures)
+    taken-done _ _ _ (p .1 .of) (found .before .generator .ensures) (found .find .ensures) (c .slot-start .ensures)
+    (c .before .before .before .before .before .before .before .set .ensures)
+    (c .before .before .before .store .ensures)
 
 pub take-spec : {M : Type 1} → statement M
 take-spec =

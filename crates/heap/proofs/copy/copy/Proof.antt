@@ -42,7 +42,9 @@ cast-t16 : tie.Need-cast-t16
 cast-t16 c =
     let space = c .before .before .before .before in
     let a = space .before .before .before .before .before .before .args in
-    let written = copied-le (a .layout) (a .metadata .now) (a .heap .now) (a .offset) (a .kind) (a .source .now) (omega arith) (space .before .before .wide .ensures .0) (space .space .ensures .0) (omega arith) (c .before .before .write .ensures .0) in
+    let written = copied-le (a .layout) (a .metadata .now) (a .heap .now) (a .offset) (a .kind) (a .source .now)
+    (omega arith) (space .before .before .wide .ensures .0) (space .space .ensures .0) (omega arith)
+    (c .before .before .write .ensures .0) in
     fits-below tt (le-trans written (space .space .ensures .2))
 
 same-length : tie.Need-same-length
@@ -51,7 +53,8 @@ same-length c = search needs
 returns-2 : tie.Need-returns-2
 returns-2 c =
     let space = c .before .before .before .before in
-    copied _ _ _ _ _ _ (omega arith) (space .before .before .wide .ensures .0) (space .space .ensures .0) (omega arith) (c .before .before .write .ensures .0) (c .before .before .write .ensures .1)
+    copied _ _ _ _ _ _ (omega arith) (space .before .before .wide .ensures .0) (space .space .ensures .0) (omega arith)
+    (c .before .before .write .ensures .0) (c .before .before .write .ensures .1)
 
 pub copy-spec : {M : Type 1} → statement M
 copy-spec =
