@@ -3,7 +3,8 @@ use Prim.Native.Nat.{ℕ, suc, _+_, _*_, _-_, _≤_, _<_}
 use native.Mathlib.Nat.{sub-zero, add-zero, add-sub-cancel-left, suc-mul, mul-le-mul-right}
 use native.Mathlib.Omega.{arith}
 use mathlib.Core.Path.{_≡_, refl, _∙_}
-use mathlib.Core.Bool.{Bool, true, false, _&&_, and-true, and-false}
+use mathlib.Core.Logic.{_↔_}
+use mathlib.Core.Bool.{Bool, true, false, true≢false, _&&_, _||_, and-true, and-false}
 use mathlib.Core.List.{List, _∷_}
 use lib.ListN.{length, getD, take, drop, length-take, length-drop}
 use lib.Seq.{drop-cons}
@@ -29,6 +30,11 @@ module _ (blocks : List ℕ) (start size : ℕ) where
 -- the block of replica i is among those of k replicas
 pub block-within : (i k size : ℕ) → i < k → i * size + size ≤ k * size
 block-within i k size h = rw (← suc-mul) (mul-le-mul-right size h)
+
+-- a disjunction is false where both sides are
+pub neither : (a b : Bool) → (a || b ≡ false) ↔ ((a ≡ false) × (b ≡ false))
+neither true b = (λ e. absurd (true≢false e), λ e. e .0)
+neither false b = (λ e. (refl, e), λ e. e .1)
 
 -- no difference is left where there was none on either side
 or-none : (d e : ℕ) → eqb (bitOr d e) 0 ≡ eqb d 0 && eqb e 0
@@ -79,49 +85,34 @@ bytes-cons blocks n at i h l =
 
 -- the n bytes at four places before byte i, with x no 0 where a difference was found
 pub record Compared (blocks : List ℕ) (n a b c d x i : ℕ) : Type 0 where
-  pub first : a + n ≤ length blocks
-  pub second : b + n ≤ length blocks
-  pub third : c + n ≤ length blocks
-  pub fourth : d + n ≤ length blocks
   pub within : i ≤ n
   pub so-far : allAlike blocks n a b c d ≡ eqb x 0 && allAlike blocks (n - i) (a + i) (b + i) (c + i) (d + i)
 
 module _ {blocks : List ℕ} {n a b c d : ℕ} where
   -- none compared yet
-  pub compared-none : (a + n ≤ length blocks) × (b + n ≤ length blocks) × (c + n ≤ length blocks) × (d + n ≤ length blocks)
-      → Compared blocks n a b c d 0 0
-  compared-none h =
-      record { first = h .0; second = h .1; third = h .2; fourth = h .3; within = omega arith; so-far = rw (sub-zero, add-zero, add-zero, add-zero, add-zero) }
+  pub compared-none : Compared blocks n a b c d 0 0
+  compared-none = record { within = omega arith; so-far = rw (sub-zero, add-zero, add-zero, add-zero, add-zero) }
 
   module _ {x i : ℕ} (s : Compared blocks n a b c d x i) where
     -- one byte more
-    pub compared-more : i < n
+    pub compared-more : (a + n ≤ length blocks) × (b + n ≤ length blocks) × (c + n ≤ length blocks) × (d + n ≤ length blocks)
+        → i < n
         → let at : ℕ → ℕ = λ p. getD blocks (p + i) 0 in
-        Compared blocks n a b c d (bitOr x (bitOr (bitOr (bitXor (at a) (at b)) (bitXor (at a) (at c))) (bitXor (at a) (at d)))) (i + 1)
+        let found : ℕ = bitOr (bitOr (bitXor (at a) (at b)) (bitXor (at a) (at c))) (bitXor (at a) (at d)) in
+        Compared blocks n a b c d (bitOr x found) (i + 1)
     unfolding alike
-    compared-more l =
+    compared-more h l =
+        let at : ℕ → ℕ = λ p. getD blocks (p + i) 0 in
         record {
-          first = s .first;
-          second = s .second;
-          third = s .third;
-          fourth = s .fourth;
           within = omega arith;
           so-far =
               s .so-far
               ∙ rw
-              (bytes-cons blocks n a i l (s .first), bytes-cons blocks n b i l (s .second), bytes-cons blocks n c i l (s .third), bytes-cons blocks n d i l (s .fourth))
-              (differ-step x (getD blocks (a + i) 0) (getD blocks (b + i) 0) (getD blocks (c + i) 0) (getD blocks (d + i) 0) _ _ _);
+              (bytes-cons blocks n a i l (h .0), bytes-cons blocks n b i l (h .1), bytes-cons blocks n c i l (h .2), bytes-cons blocks n d i l (h .3))
+              (differ-step x (at a) (at b) (at c) (at d) _ _ _);
         }
 
     -- all compared
     pub compared-all : n ≤ i → eqb x 0 ≡ allAlike blocks n a b c d
     unfolding alike
     compared-all l = let e : n - i ≡ 0 = omega arith in rw (s .so-far, e, and-true)
-
--- a place that is compared thrice
-pub alike-thrice : (blocks : List ℕ) (n a b : ℕ) {r : Bool} → r ≡ allAlike blocks n a b b b → r ≡ alike (bytesAt blocks n a) (bytesAt blocks n b)
-alike-thrice blocks n a b e = e ∙ go (alike (bytesAt blocks n a) (bytesAt blocks n b))
-  where
-    go : (t : Bool) → t && (t && t) ≡ t
-    go true = refl
-    go false = refl

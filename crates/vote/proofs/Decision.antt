@@ -2,8 +2,7 @@
 use Prim.Native.Nat.{ℕ, _+_, _*_, _-_, _/_, _%_, _^_, _≤_, _<_}
 use native.Mathlib.Omega.{arith}
 use mathlib.Core.Path.{_≡_, refl, ap, _∙_}
-use mathlib.Core.Logic.{_↔_}
-use mathlib.Core.Bool.{Bool, true, false, true≢false, _||_, and-false}
+use mathlib.Core.Bool.{Bool, true, false, and-false}
 use mathlib.Core.List.{List, [], _++_}
 use lib.ListN.{length, getD, take, drop}
 use borrow.Author.Tests.{lt-ltb, le-ltb, ltb-false, eqb-true, not-false}
@@ -14,7 +13,7 @@ use lib.Seq.{take-all}
 use Rattle.writing.specs.Overwrite.{overwrite}
 use Rattle.vote.specs.Decide.{blockOf, tabulate, agree, agreements, digits, votes, maskOf, leader, invalid, won, lost, count, decide}
 use Rattle.alike.proofs.Equal.{alike-self}
-use Rattle.vote.proofs.Blocks.{part, part-block, part-length, block-within}
+use Rattle.vote.proofs.Blocks.{part, part-block, part-length, block-within, neither}
 use Rattle.vote.proofs.Tables.{tabulate-at}
 use Rattle.vote.proofs.Winner.{mask-bit, digits-front, leader-le}
 
@@ -26,11 +25,6 @@ pub record Allowed (blocksLength k size outputLength : ℕ) : Type 0 where
   pub whole : blocksLength ≡ k * size
   pub short : size ≤ 4096
   pub room : size ≤ outputLength
-
--- a disjunction is false where both sides are
-neither : (a b : Bool) → (a || b ≡ false) ↔ ((a ≡ false) × (b ≡ false))
-neither true b = (λ e. absurd (true≢false e), λ e. e .0)
-neither false b = (λ e. (refl, e), λ e. e .1)
 
 -- a vote that is not invalid is allowed
 pub allowed : {blocksLength k size outputLength : ℕ} → invalid blocksLength k size outputLength ≡ false

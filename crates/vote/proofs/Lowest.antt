@@ -1,12 +1,12 @@
 -- The lowest replica with the same block, and that two replicas agree where theirs are the same.
-use Prim.Native.Nat.{ℕ, _+_, _*_, _-_, _/_, _≤_, _<_}
+use Prim.Native.Nat.{ℕ, suc, _+_, _*_, _-_, _/_, _≤_, _<_}
 use native.Mathlib.Nat.{zero-add, zero-mul, suc-mul, add-mul, mul-le-mul-right}
 use native.Mathlib.Numerals.{add-one}
 use native.Mathlib.Decide.{ℕ-discrete, decLt}
 use native.Mathlib.Omega.{arith}
 use mathlib.Core.Path.{_≡_, refl, sym, _∙_}
 use mathlib.Core.Logic.{_≢_}
-use mathlib.Core.Bool.{Bool, true, false, _&&_}
+use mathlib.Core.Bool.{Bool, true, false, not, _&&_, _||_, and-self}
 use mathlib.Core.List.{List, [], _∷_}
 use lib.ListN.{getD, replicate}
 use lib.Dec.{ltb, eqb}
@@ -15,9 +15,10 @@ use Rattle.search.specs.First.{first}
 use Rattle.search.proofs.First.{first-holds, first-same, first-range}
 use Rattle.alike.specs.Alike.{alike}
 use Rattle.vote.specs.Decide.{blockOf, tabulate, agree, agreements}
-use Rattle.vote.specs.Groups.{bytesAt, matching, matchingAll, shared, restOf, lowest, groupOf, groupsOf, instead, together}
-use Rattle.alike.proofs.Equal.{alike-self, alike-equal}
-use Rattle.vote.proofs.Strides.{same-test, matching-self, matching-again, matching-thrice, shared-le}
+use Rattle.vote.specs.Groups.{matching, follows, strays, shared, lowest, groupOf, groupsOf, instead, together}
+use Rattle.alike.proofs.Equal.{alike-self, alike-equal, same-told}
+use Rattle.vote.proofs.Search.{first-is, first-either}
+use Rattle.vote.proofs.Strides.{shared-fits}
 use Rattle.vote.proofs.Tables.{tabulate-at, tabulate-same, Filled, filled-to}
 
 -- ---- what all blocks share
@@ -28,54 +29,72 @@ pub record Sharing (blocks : List ℕ) (k size most start i : ℕ) : Type 0 wher
   pub within : i ≤ k
   pub so-far : most ≡ shared blocks size i
 
+-- one strays more, where two do not both follow
+or-not : (t x y : Bool) → t || not (x && y) ≡ (t || not x) || not y
+or-not true x y = refl
+or-not false true y = refl
+or-not false false y = refl
+
 module _ {blocks : List ℕ} {k size : ℕ} where
   -- replica 0 alone
   pub sharing-none : (i : ℕ) → i ≡ 1 → 0 < k → Sharing blocks k size (size / 256) size i
-  unfolding shared
+  unfolding strays
   sharing-none i e h =
-      rw e record { place = omega arith; within = omega arith; so-far = rw zero-mul (sym (matching-self blocks 256 0 (size / 256))) }
-
-  -- one replica more
-  sharing-more : {most start i next : ℕ} → Sharing blocks k size most start i → i < k → next ≡ matching blocks 256 0 start most
-      → Sharing blocks k size next (start + size) (i + 1)
-  unfolding shared
-  sharing-more s h e =
-      record { place = rw (add-one, suc-mul, s .place); within = omega arith; so-far = e ∙ rw (add-one, s .place, s .so-far) }
+      rw
+      e
+      record { place = omega arith; within = omega arith; so-far = first-is (strays blocks size 1) (omega arith) (λ j l. rw (zero-mul, alike-self)) (λ l. absurd (omega arith)) }
 
   module _ {most start i : ℕ} (s : Sharing blocks k size most start i) where
     -- the strides are within each block of m more
     pub sharing-room : (m : ℕ) → i + m ≤ k → (start + m * size ≤ k * size) × (most * 256 ≤ size)
     sharing-room m h =
         let r : (i + m) * size ≤ k * size = mul-le-mul-right size h in
-        omega (arith, s .place, add-mul i m size, s .so-far, shared-le blocks size i)
+        omega (arith, s .place, add-mul i m size, s .so-far, shared-fits blocks size i)
 
-    -- two replicas more, and three
-    sharing-two : {next : ℕ} → i + 2 ≤ k → next ≡ matching blocks 256 0 (start + size) (matching blocks 256 0 start most)
-        → Sharing blocks k size next (start + size + size) (i + 1 + 1)
-    sharing-two h e = sharing-more (sharing-more s (omega arith) refl) (omega arith) e
-
-    pub sharing-three : {next : ℕ} (j : ℕ) → j ≡ i + 1 + 1 + 1 → j ≤ k
-        → next ≡ matchingAll blocks 256 0 start (start + size) (start + size + size) most
-        → Sharing blocks k size next (start + size + size + size) j
-    sharing-three j q h e = rw q (sharing-more (sharing-two (omega arith) refl) (omega arith) e)
-
-    -- none is left, or one, or two
+    -- none is left
     pub sharing-all : k ≤ i → most ≡ shared blocks size k
     sharing-all h = let e : i ≡ k = omega (arith, s .within) in rw e at s .so-far
 
-    pub sharing-last : {r : ℕ} → i + 1 ≡ k → r ≡ matchingAll blocks 256 0 start start start most → r ≡ shared blocks size k
-    sharing-last h e = rw h at (sharing-more s (omega arith) (e ∙ matching-thrice blocks 256 0 start most) .so-far)
+    -- more were compared by a test that one of them strays
+    sharing-more : (j : ℕ) (test : ℕ → Bool) → ((n : ℕ) → strays blocks size i n || test n ≡ strays blocks size j n)
+        → first test 0 most ≡ shared blocks size j
+    sharing-more j test h = rw (s .so-far) (first-either (strays blocks size i) test (strays blocks size j) (size / 256) h)
 
-    pub sharing-last-two : {r : ℕ} → i + 1 + 1 ≡ k → r ≡ matchingAll blocks 256 0 start (start + size) (start + size) most → r ≡ shared blocks size k
+    -- three
+    pub sharing-three : {next : ℕ} (j : ℕ) → j ≡ suc (suc (suc i)) → j ≤ k
+        → next ≡ matching blocks 256 0 start (start + size) (start + size + size) most
+        → Sharing blocks k size next (start + size + size + size) j
+    unfolding strays
+    sharing-three j q h e =
+        rw q record {
+          place = rw (suc-mul, suc-mul, suc-mul, s .place);
+          within = omega arith;
+          so-far =
+              e
+              ∙ rw
+              (s .place, ← suc-mul i size, ← suc-mul (suc i) size)
+              (sharing-more (suc (suc (suc i))) _ (λ n.
+              or-not (strays blocks size i n) (follows blocks size i n) (follows blocks size (suc i) n && follows blocks size (suc (suc i)) n)
+              ∙ or-not (strays blocks size (suc i) n) (follows blocks size (suc i) n) (follows blocks size (suc (suc i)) n)));
+        }
+
+    -- the last one, and the last two
+    pub sharing-last : {r : ℕ} → suc i ≡ k → r ≡ matching blocks 256 0 start start start most → r ≡ shared blocks size k
+    unfolding strays
+    sharing-last h e = rw (← h) (e ∙ rw (s .place) (sharing-more (suc i) _ (λ n. rw (and-self, and-self))))
+
+    pub sharing-last-two : {r : ℕ} → suc (suc i) ≡ k → r ≡ matching blocks 256 0 start (start + size) (start + size) most
+        → r ≡ shared blocks size k
+    unfolding strays
     sharing-last-two h e =
-        rw h at (sharing-two (omega arith) (e ∙ matching-again blocks 256 0 (start + size) (matching blocks 256 0 start most)) .so-far)
+        rw
+        (← h)
+        (e
+        ∙ rw
+        (s .place, ← suc-mul i size)
+        (sharing-more (suc (suc i)) _ (λ n. rw and-self (or-not (strays blocks size i n) (follows blocks size i n) (follows blocks size (suc i) n)))))
 
 -- ---- groups
-
--- the code compares what is left of two blocks
-pub rest-test : (blocks : List ℕ) (size from k at i : ℕ) {r t : Bool} → at ≡ i * size
-    → r ≡ alike (bytesAt blocks (size - from) (at + from)) (restOf blocks size from k) → r ≡ t → alike (restOf blocks size from i) (restOf blocks size from k) ≡ t
-rest-test blocks size from k at i e f h = rw (← e, ← f, h)
 
 -- a test of one entry
 pub instead-taken : (a b x : ℕ) → x ≡ a → b ≡ instead a b x
@@ -170,14 +189,14 @@ module _ (blocks : List ℕ) (k size : ℕ) where
   -- to be of one group is to have blocks that are alike
   groups-alike : (i j : ℕ) → eqb (lowest blocks size i) (lowest blocks size j) ≡ alike (blockOf blocks size i) (blockOf blocks size j)
   groups-alike i j =
-      same-test
-      _
+      same-told
+      (blockOf blocks size i)
+      (blockOf blocks size j)
       _
       (λ e.
       let g : lowest blocks size i ≡ lowest blocks size j = eqb-true _ _ e in
-      let q : blockOf blocks size i ≡ blockOf blocks size j = sym (group-block i) ∙ rw g (group-block j) in
-      rw q (alike-self (blockOf blocks size j)))
-      (λ e. eq-eqb _ _ (group-same i j (alike-equal _ _ e)))
+      sym (group-block i) ∙ rw g (group-block j))
+      (λ e. eq-eqb _ _ (group-same i j e))
 
   -- to be of the group of one of the replicas is to agree with it
   together-agree : (i j : ℕ) → i < k → i < 16 → j < 16 → together (groupsOf blocks k size) i j ≡ agree blocks k size i j

@@ -1,6 +1,6 @@
 -- How comparing and counting go about their work. What the vote promises rests on `Decide` alone.
 use Prim.Native.Nat.{ℕ, zero, suc, _+_, _*_, _-_, _/_}
-use mathlib.Core.Bool.{Bool, true, false, not, _&&_}
+use mathlib.Core.Bool.{Bool, true, false, not, _&&_, _||_}
 use mathlib.Core.List.{List, []}
 use lib.ListN.{getD, take, drop}
 use lib.Dec.{ltb, eqb}
@@ -18,33 +18,40 @@ bytesAt blocks n at = take n (drop at blocks)
 -- the bytes at three places are those at the first
 abbrev pub allAlike : List ℕ → ℕ → ℕ → ℕ → ℕ → ℕ → Bool
 allAlike blocks n a b c d =
-    alike (bytesAt blocks n a) (bytesAt blocks n b) && (alike (bytesAt blocks n a) (bytesAt blocks n c) && alike (bytesAt blocks n a) (bytesAt blocks n d))
+    let own : List ℕ = bytesAt blocks n a in
+    alike own (bytesAt blocks n b) && (alike own (bytesAt blocks n c) && alike own (bytesAt blocks n d))
 
--- the n-th strides at two places differ
-abbrev pub differ : List ℕ → ℕ → ℕ → ℕ → ℕ → Bool
-differ blocks stride a b n = not (alike (bytesAt blocks stride (a + n * stride)) (bytesAt blocks stride (b + n * stride)))
+-- the strides that begin `at` bytes after four places are not all the same
+abbrev pub differ : List ℕ → ℕ → ℕ → ℕ → ℕ → ℕ → ℕ → Bool
+differ blocks stride a b c d at = not (allAlike blocks stride (a + at) (b + at) (c + at) (d + at))
 
--- how many strides from the first on are the same at two places, of `most`, and at four
-abbrev pub matching : List ℕ → ℕ → ℕ → ℕ → ℕ → ℕ
-matching blocks stride a b most = first (differ blocks stride a b) 0 most
+-- how many strides from the first on are the same at four places, of `most`
+abbrev pub matching : List ℕ → ℕ → ℕ → ℕ → ℕ → ℕ → ℕ → ℕ
+matching blocks stride a b c d most = first (λ n. differ blocks stride a b c d (n * stride)) 0 most
 
-abbrev pub matchingAll : List ℕ → ℕ → ℕ → ℕ → ℕ → ℕ → ℕ → ℕ
-matchingAll blocks stride a b c d most = matching blocks stride a d (matching blocks stride a c (matching blocks stride a b most))
+-- replica i has the n-th stride of 256 bytes of replica 0
+abbrev pub follows : List ℕ → ℕ → ℕ → ℕ → Bool
+follows blocks size i n = alike (bytesAt blocks 256 (0 + n * 256)) (bytesAt blocks 256 (i * size + n * 256))
 
--- how many strides of 256 bytes from the first on are the same in the first k replicas
-unfoldable pub shared : List ℕ → ℕ → ℕ → ℕ
-shared blocks size zero = size / 256
-shared blocks size (suc i) = matching blocks 256 0 (i * size) (shared blocks size i)
+-- one of the first k replicas has not
+unfoldable pub strays : List ℕ → ℕ → ℕ → ℕ → Bool
+strays blocks size zero n = false
+strays blocks size (suc i) n = strays blocks size i n || not (follows blocks size i n)
+
+-- how many strides from the first on are the same in the first k replicas
+abbrev pub shared : List ℕ → ℕ → ℕ → ℕ
+shared blocks size k = first (strays blocks size k) 0 (size / 256)
 
 -- ---- groups: agreement goes by content, so each replica is known by the lowest one with the same block
 
--- the block of replica i from byte `from` on
+-- the block that begins at a place, from byte `from` on
 abbrev pub restOf : List ℕ → ℕ → ℕ → ℕ → List ℕ
-restOf blocks size from i = bytesAt blocks (size - from) (i * size + from)
+restOf blocks size from at = bytesAt blocks (size - from) (at + from)
 
 -- the lowest replica with the bytes of replica i from byte `from` on
 abbrev pub lowestFrom : List ℕ → ℕ → ℕ → ℕ → ℕ
-lowestFrom blocks size from i = first (λ r. alike (restOf blocks size from r) (restOf blocks size from i)) 0 i
+lowestFrom blocks size from i =
+    first (λ r. alike (restOf blocks size from (r * size)) (restOf blocks size from (i * size))) 0 i
 
 -- the lowest replica with the block of replica i
 abbrev pub lowest : List ℕ → ℕ → ℕ → ℕ

@@ -4,7 +4,7 @@ ghost use Prim.Native.Nat.{_+_, _*_, _≤_, _<_};
 ghost use lib.ListN.{length, getD};
 ghost use Rattle.alike.specs.Alike.{alike};
 ghost use Rattle.vote.specs.Decide.{tabulate, agreements};
-ghost use Rattle.vote.specs.Groups.{bytesAt, allAlike, matchingAll, shared, lowestFrom, instead, groupsOf, together};
+ghost use Rattle.vote.specs.Groups.{bytesAt, allAlike, matching, shared, lowestFrom, instead, groupsOf, together};
 
 // Blocks are compared a stride at a time; a block under a stride, by shorter ones.
 const STRIDE: usize = 256;
@@ -28,6 +28,14 @@ fn folded(blocks: &[u8], n: usize, a: usize, b: usize, c: usize, d: usize) -> bo
     differ == 0
 }
 
+// Whether the n bytes at two places are the same, at once.
+fn equal(blocks: &[u8], n: usize, a: usize, b: usize) -> bool
+    requires { ⌜ (a + n ≤ length (now blocks)) × (b + n ≤ length (now blocks)) ⌝ }
+    ensures { λ r. ⌜ r ≡ alike (bytesAt (now (blocks .entry)) n a) (bytesAt (now (blocks .entry)) n b) ⌝ }
+{
+    folded(blocks, n, a, b, b, b)
+}
+
 // How many strides from the first on are the same at four places, of `most`.
 fn matching(
     blocks: &[u8],
@@ -41,7 +49,7 @@ fn matching(
     requires { let all = length (now blocks) in
         let n = most * stride in
         ⌜ (a + n ≤ all) × (b + n ≤ all) × (c + n ≤ all) × (d + n ≤ all) ⌝ }
-    ensures { λ r. ⌜ r ≡ matchingAll (now (blocks .entry)) stride a b c d most ⌝ }
+    ensures { λ r. ⌜ r ≡ matching (now (blocks .entry)) stride a b c d most ⌝ }
 {
     let mut at: usize = 0;
     let mut n: usize = 0;
@@ -66,7 +74,7 @@ fn strided(blocks: &[u8], stride: usize, n: usize, a: usize, b: usize) -> bool
         return false;
     }
     let last = n - stride;
-    folded(blocks, stride, a + last, b + last, b + last, b + last)
+    equal(blocks, stride, a + last, b + last)
 }
 
 fn same(blocks: &[u8], n: usize, a: usize, b: usize) -> bool
@@ -74,7 +82,7 @@ fn same(blocks: &[u8], n: usize, a: usize, b: usize) -> bool
     ensures { λ r. ⌜ r ≡ alike (bytesAt (now (blocks .entry)) n a) (bytesAt (now (blocks .entry)) n b) ⌝ }
 {
     if n < SHORT_STRIDE {
-        return folded(blocks, n, a, b, b, b);
+        return equal(blocks, n, a, b);
     }
     if n < STRIDE {
         return strided(blocks, SHORT_STRIDE, n, a, b);

@@ -12,7 +12,7 @@ abbrev μ-loop : tie.MeasureT-loop
 μ-loop blocks n a b c d differ₀ i₀ differ i = n - i
 
 loop-holds : tie.Need-loop-holds Inv-loop μ-loop
-loop-holds c = compared-none (c .pre)
+loop-holds c = compared-none
 
 add-x : tie.Need-add-x Inv-loop μ-loop
 add-x c = omega arith
@@ -45,7 +45,7 @@ loop-less : tie.Need-loop-less Inv-loop μ-loop
 loop-less c = omega arith
 
 loop-again : tie.Need-loop-again Inv-loop μ-loop
-loop-again c = compared-more (c .before .before .before .before .before .loop .inv) (omega arith)
+loop-again c = compared-more (c .before .before .before .before .before .loop .inv) (omega arith) (omega arith)
 
 returns : tie.Need-returns Inv-loop μ-loop
 returns c = compared-all (c .before .loop .inv) (omega arith)

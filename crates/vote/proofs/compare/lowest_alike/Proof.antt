@@ -1,18 +1,17 @@
 -- `lowest_alike` meets its contract. The loop's invariant: no replica before this one has the same rest.
-use Prim.Native.Nat.{_+_, _-_, _≤_}
+use Prim.Native.Nat.{_+_, _*_, _-_, _≤_}
 use native.Mathlib.Omega.{arith}
 use lib.ListN.{length}
 use Rattle.alike.specs.Alike.{alike}
 use Rattle.vote.specs.Groups.{restOf}
 use Rattle.vote.proofs.Blocks.{block-within}
 use Rattle.vote.proofs.Search.{Searched, searched-none, searched-found, searched-more, searched-all}
-use Rattle.vote.proofs.Lowest.{rest-test}
 use Rattle.vote.proofs.compare.lowest_alike.Statement.{statement}
 use Rattle.vote.proofs.compare.lowest_alike.Tie as tie
 
 abbrev Inv-loop : tie.InvT-loop
 Inv-loop blocks block-len from replica rest own at₀ i₀ at i =
-    Searched (λ r. alike (restOf blocks block-len from r) (restOf blocks block-len from replica)) block-len replica at i
+    Searched (λ at. alike (restOf blocks block-len from at) (restOf blocks block-len from (replica * block-len))) block-len replica at i
 
 abbrev μ-loop : tie.MeasureT-loop
 μ-loop blocks block-len from replica rest own at₀ i₀ at i = replica - i
@@ -44,9 +43,7 @@ same-requires c κs = omega (arith, next-within c)
 
 returns : tie.Need-returns Inv-loop μ-loop
 returns c =
-    let a = c .before .before .before .before .before .args in
-    let s = c .before .before .before .loop .inv in
-    searched-found s (omega arith) (rest-test (a .blocks .now) (a .block-len) (a .from) (a .replica) _ _ (s .place) (c .before .same .ensures) (c .if1 .taken))
+    searched-found (c .before .before .before .loop .inv) (omega arith) (rw (← c .before .same .ensures, c .if1 .taken))
 
 add-at : tie.Need-add-at Inv-loop μ-loop
 add-at c = omega (arith, next-within (c .before .before))
@@ -59,9 +56,7 @@ loop-less c = omega arith
 
 loop-again : tie.Need-loop-again Inv-loop μ-loop
 loop-again c =
-    let a = c .before .before .before .before .before .args in
-    let s = c .before .before .before .loop .inv in
-    searched-more s (omega arith) (rest-test (a .blocks .now) (a .block-len) (a .from) (a .replica) _ _ (s .place) (c .before .same .ensures) (c .if1 .left))
+    searched-more (c .before .before .before .loop .inv) (omega arith) (rw (← c .before .same .ensures, c .if1 .left))
 
 returns-2 : tie.Need-returns-2 Inv-loop μ-loop
 returns-2 c = searched-all (c .before .loop .inv) (omega arith)

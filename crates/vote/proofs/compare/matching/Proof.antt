@@ -1,16 +1,15 @@
 -- `matching` meets its contract. The loop's invariant: the strides passed are the same at all four places.
 use Prim.Native.Nat.{_+_, _-_, _≤_}
 use native.Mathlib.Omega.{arith}
-use mathlib.Core.Path.{_∙_}
 use lib.ListN.{length}
+use Rattle.vote.specs.Groups.{differ}
 use Rattle.vote.proofs.Blocks.{block-within}
 use Rattle.vote.proofs.Search.{Searched, searched-none, searched-found, searched-more, searched-all}
-use Rattle.vote.proofs.Strides.{differAll, stride-differ, matching-all}
 use Rattle.vote.proofs.compare.matching.Statement.{statement}
 use Rattle.vote.proofs.compare.matching.Tie as tie
 
 abbrev Inv-loop : tie.InvT-loop
-Inv-loop blocks stride most a b c d at₀ n₀ at n = Searched (differAll blocks stride a b c d) stride most at n
+Inv-loop blocks stride most a b c d at₀ n₀ at n = Searched (differ blocks stride a b c d) stride most at n
 
 abbrev μ-loop : tie.MeasureT-loop
 μ-loop blocks stride most a b c d at₀ n₀ at n = most - n
@@ -54,20 +53,14 @@ loop-less c = omega arith
 
 loop-again : tie.Need-loop-again Inv-loop μ-loop
 loop-again c =
-    let s = c .before .before .before .loop .inv in
-    searched-more s (omega arith) (stride-differ _ _ _ _ _ _ _ _ (s .place) (c .before .folded .ensures) (c .if1 .taken))
+    searched-more (c .before .before .before .loop .inv) (omega arith) (rw (← c .before .folded .ensures, c .if1 .taken))
 
 returns : tie.Need-returns Inv-loop μ-loop
 returns c =
-    let x = c .before .before .before .before .before .args in
-    let s = c .before .before .before .loop .inv in
-    searched-found s (omega arith) (stride-differ _ _ _ _ _ _ _ _ (s .place) (c .before .folded .ensures) (c .if1 .left))
-    ∙ matching-all (x .blocks .now) (x .stride) (x .a) (x .b) (x .c) (x .d) (x .most)
+    searched-found (c .before .before .before .loop .inv) (omega arith) (rw (← c .before .folded .ensures, c .if1 .left))
 
 returns-2 : tie.Need-returns-2 Inv-loop μ-loop
-returns-2 c =
-    let x = c .before .before .before .args in
-    searched-all (c .before .loop .inv) (omega arith) ∙ matching-all (x .blocks .now) (x .stride) (x .a) (x .b) (x .c) (x .d) (x .most)
+returns-2 c = searched-all (c .before .loop .inv) (omega arith)
 
 pub matching-spec : {M : Type 1} → statement M
 matching-spec =

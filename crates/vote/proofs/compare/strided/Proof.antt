@@ -24,20 +24,14 @@ returns c =
 sub-last : tie.Need-sub-last
 sub-last c = search needs
 
-add-folded : tie.Need-add-folded
-add-folded c = search needs
+add-equal : tie.Need-add-equal
+add-equal c = search needs
 
-add-folded-2 : tie.Need-add-folded-2
-add-folded-2 c = search needs
+add-equal-2 : tie.Need-add-equal-2
+add-equal-2 c = search needs
 
-add-folded-3 : tie.Need-add-folded-3
-add-folded-3 c = search needs
-
-add-folded-4 : tie.Need-add-folded-4
-add-folded-4 c = search needs
-
-folded-requires : tie.Need-folded-requires
-folded-requires c κs = search needs
+equal-requires : tie.Need-equal-requires
+equal-requires c κs = search needs
 
 returns-2 : tie.Need-returns-2
 returns-2 c =
@@ -52,7 +46,7 @@ returns-2 c =
     (c .before .if1 .left)
     (omega arith)
     (omega arith)
-    (c .folded .ensures)
+    (c .equal .ensures)
 
 pub strided-spec : {M : Type 1} → statement M
 strided-spec =
@@ -63,9 +57,7 @@ strided-spec =
     matching-requires
     returns
     sub-last
-    add-folded
-    add-folded-2
-    add-folded-3
-    add-folded-4
-    folded-requires
+    add-equal
+    add-equal-2
+    equal-requires
     returns-2)
