@@ -19,7 +19,7 @@ use Rattle.vote.specs.Groups.{matching, follows, strays, shared, lowest,
 use Rattle.alike.proofs.Equal.{alike-self, alike-equal, same-told}
 use Rattle.vote.proofs.Search.{first-is, first-either}
 use Rattle.vote.proofs.Strides.{shared-fits}
-use Rattle.vote.proofs.Tables.{tabulate-at, tabulate-same, Filled, filled-to}
+use Rattle.vote.proofs.Tables.{tabulate-at, tabulate-same}
 
 -- ---- what all blocks share
 
@@ -160,7 +160,8 @@ module _ {blocks : List ℕ} {k size : ℕ} where
             (groupOf blocks (i + 1) size)
             0
             16
-            (λ j l. rw (tabulate-at (groupOf blocks i size) 0 16 j (omega arith)) (group-step blocks size i j)));
+            0
+            (λ j o l. rw (tabulate-at (groupOf blocks i size) 0 16 j (omega arith)) (group-step blocks size i j)));
       }
 
   -- all replicas
@@ -209,17 +210,13 @@ module _ (blocks : List ℕ) (k size : ℕ) where
       go (yes n) = rw (group-in blocks size k j n, lt-ltb j k n) (groups-alike i j)
       go (no n) = rw (group-out blocks size k j (omega arith), le-ltb j k (omega arith)) (ne-eqb (lowest blocks size i) j (λ e. absurd (omega (arith, lowest-le blocks size i))))
 
-  -- a replica past the others agrees with none
-  alone : (i : ℕ) → k ≤ i → replicate 16 false ≡ tabulate (agree blocks k size i) 0 16
-  unfolding tabulate
-  alone i h = tabulate-same (λ j. false) (agree blocks k size i) 0 16 (λ j l. rw (le-ltb i k h))
+  -- the row of a replica, as the code has it
+  pub agree-row : {groups : List ℕ} {i : ℕ} {row : List Bool} → k ≤ 16 → i < k → groups ≡ groupsOf blocks k size
+      → row ≡ tabulate (together groups i) 0 16 → row ≡ tabulate (agree blocks k size i) 0 16
+  agree-row {i = i} h l e q =
+      q ∙ rw e (tabulate-same (together (groupsOf blocks k size) i) _ 0 16 0 (λ j o m. together-agree i j l (omega arith) (omega arith)))
 
-  -- the rows of the replicas, and no other
-  pub groups-agreements : {out : List (List Bool)} {groups : List ℕ} {i : ℕ} → groups ≡ groupsOf blocks k size → k ≤ 16 → i ≡ k
-      → Filled (λ r. tabulate (together groups r) 0 16) (replicate 16 false) out i → out ≡ agreements blocks k size
-  groups-agreements {groups = groups} e h q filled =
-      filled-to
-      filled
-      (λ r. tabulate (agree blocks k size r) 0 16)
-      (λ r l. rw e (tabulate-same (together (groupsOf blocks k size) r) (agree blocks k size r) 0 16 (λ j m. together-agree r j (omega arith) (omega arith) (omega arith))))
-      (λ r l. alone r (omega arith))
+  -- a replica past the others agrees with none
+  pub alone : (i : ℕ) → k ≤ i → replicate 16 false ≡ tabulate (agree blocks k size i) 0 16
+  unfolding tabulate
+  alone i h = tabulate-same (λ j. false) (agree blocks k size i) 0 16 0 (λ j o l. rw (le-ltb i k h))

@@ -38,19 +38,15 @@ mask-bit (b ∷ row) (suc r) =
     let half : (cond b 1 0 + 2 * digits 2 row) / 2 ≡ digits 2 row = omega (arith, digit-le b) in
     rw (pow-succ', ← div-div-eq-div-mul, half) (mask-bit row r)
 
--- a tabulated row that says yes to none, and one that does only at first
-digits-none : (base : ℕ) (f : ℕ → Bool) (i m : ℕ) → ((j : ℕ) → i ≤ j → f j ≡ false) → digits base (tabulate f i m) ≡ 0
-unfolding digits tabulate
-digits-none base f i zero h = refl
-digits-none base f i (suc m) h = rw (h i (omega arith), digits-none base f (suc i) m (λ j l. h j (omega arith)), mul-zero)
-
+-- a tabulated row that says yes to none after the first n
 pub digits-front : (base : ℕ) (f : ℕ → Bool) (i n m : ℕ) → ((j : ℕ) → i + n ≤ j → f j ≡ false)
     → digits base (take n (tabulate f i m)) ≡ digits base (tabulate f i m)
 unfolding digits tabulate
-digits-front base f i zero m h = sym (digits-none base f i m (λ j l. h j (omega arith)))
+digits-front base f i zero zero h = refl
+digits-front base f i zero (suc m) h =
+    rw (h i (omega arith), ← digits-front base f (suc i) zero m (λ j l. h j (omega arith)), mul-zero)
 digits-front base f i (suc n) zero h = refl
-digits-front base f i (suc n) (suc m) h =
-    ap (λ (d : ℕ). cond (f i) 1 0 + base * d) (digits-front base f (suc i) n m (λ j l. h j (omega arith)))
+digits-front base f i (suc n) (suc m) h = rw (digits-front base f (suc i) n m (λ j l. h j (omega arith)))
 
 -- the digits of the first n of a row of sixteen, from replica i on
 pub record Summed (base : ℕ) (row : List Bool) (n sum i : ℕ) : Type 0 where

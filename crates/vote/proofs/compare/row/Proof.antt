@@ -36,7 +36,7 @@ loop-again : tie.Need-loop-again Inv-loop μ-loop
 loop-again c = filled-more (c .before .loop .inv) (omega arith) refl
 
 returns : tie.Need-returns Inv-loop μ-loop
-returns c = filled-all (c .before .loop .inv) (omega arith)
+returns c = filled-all (c .before .loop .inv) (λ j l m. absurd (omega arith))
 
 pub row-spec : {M : Type 1} → statement M
 row-spec =
