@@ -7,7 +7,7 @@ use mathlib.Core.Path.{_≡_, refl, sym, ap, _∙_}
 use mathlib.Core.Bool.{Bool, true, false, cond}
 use mathlib.Core.List.{List, [], _∷_}
 use lib.ListN.{length, getD, take, drop, length-take, length-drop, drop-of-length-le}
-use lib.Seq.{drop-cons, getD-take, take-all}
+use lib.Seq.{drop-cons, getD-take}
 use lib.Pow.{pow-mono}
 use lib.Dec.{ltb}
 use borrow.Author.Tests.{lt-ltb, le-ltb}
@@ -48,53 +48,45 @@ digits-front base f i zero (suc m) h =
 digits-front base f i (suc n) zero h = refl
 digits-front base f i (suc n) (suc m) h = rw (digits-front base f (suc i) n m (λ j l. h j (omega arith)))
 
--- the digits of the first n of a row of sixteen, from replica i on
+-- the digits of the first n of a row, from replica i on
 pub record Summed (base : ℕ) (row : List Bool) (n sum i : ℕ) : Type 0 where
-  pub sixteen : length row ≡ 16
-  pub few : n ≤ 16
   pub within : i ≤ n
   pub so-far : sum ≡ digits base (drop i (take n row))
 
 module _ {base : ℕ} {row : List Bool} {n : ℕ} where
   -- none summed yet
-  pub summed-none : length row ≡ 16 → n ≤ 16 → Summed base row n 0 n
+  pub summed-none : Summed base row n 0 n
   unfolding digits
-  summed-none e h =
+  summed-none =
       let l : length (take n row) ≤ n = simp length-take (omega arith) in
-      record { sixteen = e; few = h; within = omega arith; so-far = rw (drop-of-length-le (take n row) l) }
+      record { within = omega arith; so-far = rw (drop-of-length-le (take n row) l) }
 
   module _ {sum i : ℕ} (s : Summed base row n sum i) where
     -- the next sum fits
-    pub summed-fits : base ≤ 2 → base * sum + 1 < 2 ^ 32
-    summed-fits h =
-        let few : 2 ^ length (drop i (take n row)) ≤ 2 ^ 16 =
-        pow-mono {j = 16} (simp (length-drop, length-take) (omega (arith, s .few))) in
+    pub summed-fits : base ≤ 2 → n ≤ 16 → base * sum + 1 < 2 ^ 32
+    summed-fits h l =
+        let few : 2 ^ length (drop i (take n row)) ≤ 2 ^ 16 = pow-mono {j = 16} (simp (length-drop, length-take) (omega arith)) in
         let twice : base * sum ≤ 2 * sum = mul-le-mul-right sum h in
         omega (arith, digits-lt base (drop i (take n row)) h, s .so-far)
 
     -- one digit more
-    pub summed-more : {next : ℕ} → 0 < i → next ≡ cond (getD row (i - 1) false) 1 0 + base * sum → Summed base row n next (i - 1)
+    pub summed-more : {next : ℕ} → 0 < i → n ≤ length row → next ≡ cond (getD row (i - 1) false) 1 0 + base * sum
+        → Summed base row n next (i - 1)
     unfolding digits
-    summed-more h e =
-        let l : i - 1 < length (take n row) = simp length-take (omega (arith, s .few, s .sixteen, s .within)) in
+    summed-more h f e =
+        let l : i - 1 < length (take n row) = simp length-take (omega (arith, s .within)) in
         let p : suc (i - 1) ≡ i = omega arith in
+        let digit : getD (take n row) (i - 1) false ≡ getD row (i - 1) false =
+        getD-take n row (i - 1) false (omega (arith, s .within)) in
         record {
-          sixteen = s .sixteen;
-          few = s .few;
           within = omega (arith, s .within);
           so-far =
-              e
-              ∙ rw (
-                s .so-far,
-                drop-cons (take n row) (i - 1) false l,
-                getD-take n row (i - 1) false (omega (arith, s .within)),
-                ap (λ (k : ℕ). drop k (take n row)) p,
-              );
+              e ∙ rw (s .so-far, drop-cons (take n row) (i - 1) false l, digit, ap (λ (k : ℕ). drop k (take n row)) p);
         }
 
     -- all summed
-    pub summed-all : i ≤ 0 → (sum ≡ digits base (take n row)) × (take 16 row ≡ row)
-    summed-all h = let z : i ≡ 0 = omega arith in (rw z at s .so-far, take-all 16 row (omega (arith, s .sixteen)))
+    pub summed-all : i ≤ 0 → sum ≡ digits base (take n row)
+    summed-all h = let z : i ≡ 0 = omega arith in rw z at s .so-far
 
 -- ---- the leader
 
@@ -109,80 +101,52 @@ leader-le table (suc n) = go (ltb (votes (getD table (leader table n) [])) (vote
     go false rest = omega arith
 
 -- the votes of the leader of the first i replicas; of none, 0
-pub most : List (List Bool) → ℕ → ℕ
-most table zero = 0
-most table (suc i) = votes (getD table (leader table (suc i)) [])
+abbrev pub most : List (List Bool) → ℕ → ℕ → ℕ
+most table best zero = 0
+most table best (suc i) = votes (getD table best [])
+
+-- the next replica leads if it has more votes; if it has not, who led leads on
+leader-next : (table : List (List Bool)) (i : ℕ) {best top : ℕ} → best ≡ leader table i → top ≡ most table best i
+    → (top < votes (getD table i []) → leader table (suc i) ≡ i)
+    × (votes (getD table i []) ≤ top → (leader table (suc i) ≡ best) × (top ≡ votes (getD table best [])))
+unfolding leader
+leader-next table zero e h = (λ l. alone, λ l. rw e (alone, omega arith))
+  where
+    alone : leader table 1 ≡ 0
+    alone = rw (le-ltb (votes (getD table 0 [])) (votes (getD table 0 [])) (omega arith), leader)
+leader-next table (suc i) e h =
+    (λ l. rw (lt-ltb _ _ (rw (h, e) at l), leader), λ l. (rw (le-ltb _ _ (rw (h, e) at l), leader) (sym e), h))
 
 -- the leader of the first i of k replicas, with its votes
 pub record Led (table : List (List Bool)) (k best top i : ℕ) : Type 0 where
   pub within : i ≤ k
   pub first : best ≡ leader table i
-  pub has : top ≡ most table i
-
-module _ (table : List (List Bool)) where
-  -- replica 0 leads the first
-  leader-one : leader table 1 ≡ 0
-  unfolding leader
-  leader-one = go (ltb (votes (getD table 0 [])) (votes (getD table 0 [])))
-    where
-      go : (t : Bool) → _≡_ {A = ℕ} (elim t [ true ↦ 0 | false ↦ 0 ]) 0
-      go true = refl
-      go false = refl
-
-  -- a replica with more votes leads, with as many at most it does not
-  leader-new : (i top : ℕ) → top ≡ most table i → top < votes (getD table i []) → leader table (suc i) ≡ i
-  unfolding leader most
-  leader-new zero top h l = leader-one
-  leader-new (suc i) top h l = rw (lt-ltb _ _ (rw h at l), leader)
-
-  leader-old : (i top : ℕ) → top ≡ most table i → votes (getD table i []) ≤ top → leader table (suc i) ≡ leader table i
-  unfolding leader most
-  leader-old zero top h l = leader-one
-  leader-old (suc i) top h l = rw (le-ltb _ _ (rw h at l), leader)
-
-  most-old : (i top : ℕ) → top ≡ most table i → votes (getD table i []) ≤ top → top ≡ most table (suc i)
-  unfolding leader most
-  most-old zero top h l = let z : top ≡ votes (getD table 0 []) = omega arith in rw leader-one z
-  most-old (suc i) top h l = rw (leader-old (suc i) top h l) h
+  pub has : top ≡ most table best i
 
 module _ {table : List (List Bool)} {k : ℕ} where
   -- none counted yet
   pub led-none : Led table k 0 0 0
-  unfolding leader most
+  unfolding leader
   led-none = record { within = omega arith; first = refl; has = refl }
 
   module _ {best top i : ℕ} (l : Led table k best top i) (h : i < k) {v : ℕ} (e : v ≡ votes (getD table i [])) where
     -- replica i has more
     pub led-new : top < v → Led table k i v (i + 1)
-    unfolding most
     led-new m =
-        let n : leader table (suc i) ≡ i = leader-new table i top (l .has) (rw e at m) in
-        record { within = omega arith; first = rw (add-one, n); has = rw (add-one, n) e }
+        let n : leader table (suc i) ≡ i = leader-next table i (l .first) (l .has) .0 (rw e at m) in
+        rw add-one record { within = omega arith; first = sym n; has = e }
 
     -- it has no more
     pub led-old : v ≤ top → Led table k best top (i + 1)
     led-old m =
-        let o : votes (getD table i []) ≤ top = rw e at m in
-        record {
-          within = omega arith;
-          first = rw (add-one, leader-old table i top (l .has) o) (l .first);
-          has = rw add-one (most-old table i top (l .has) o);
-        }
+        let o = leader-next table i (l .first) (l .has) .1 (rw e at m) in
+        rw add-one record { within = omega arith; first = sym (o .0); has = o .1 }
 
-  -- all counted: the leader, with its votes
+  -- all counted: the leader, which is one of the replicas, with its votes
   pub led-all : {best top i : ℕ} → Led table k best top i → k ≤ i → 0 < k
-      → (best ≡ leader table k) × (top ≡ votes (getD table (leader table k) []))
-  unfolding most
-  led-all {i = i} l h p = let e : i ≡ k = omega (arith, l .within) in (rw e at l .first, (rw e at l .has) ∙ some k p)
-    where
-      some : (k : ℕ) → 0 < k → most table k ≡ votes (getD table (leader table k) [])
-      some zero p = absurd (omega arith)
-      some (suc k) p = refl
-
-  -- which is one of the replicas
-  pub led-small : {best top i : ℕ} → Led table k best top i → k ≤ i → 0 < k → best < k
-  led-small l h p = omega (arith, led-all l h p .0, leader-le table k)
-
--- a row is counted whole
-pub counted : (row : List Bool) {v : ℕ} → v ≡ digits 1 (take 16 row) → take 16 row ≡ row → v ≡ votes row
-counted row e w = e ∙ ap (digits 1) w
+      → (best ≡ leader table k) × (top ≡ votes (getD table best [])) × (best < k)
+  led-all {i = i} l h p =
+      let q : i ≡ k = omega (arith, l .within) in
+      let s : i ≡ suc (k - 1) = omega arith in
+      let first : _ ≡ leader table k = rw q at l .first in
+      (first, rw s at l .has, omega (arith, leader-le table k))

@@ -1,5 +1,6 @@
 -- `digits` meets its contract. The loop's invariant: the digits from `i` on are summed up.
 use native.Mathlib.Omega.{arith}
+use lib.Seq.{take-all}
 use Rattle.vote.proofs.Winner.{Summed, summed-none, summed-fits, summed-more, summed-all}
 use Rattle.vote.proofs.elect.digits.Statement.{statement}
 use Rattle.vote.proofs.elect.digits.Tie as tie
@@ -11,34 +12,34 @@ abbrev μ-loop : tie.MeasureT-loop
 μ-loop base n row sum₀ i₀ sum i = i
 
 loop-holds : tie.Need-loop-holds Inv-loop μ-loop
-loop-holds c = summed-none (omega arith) (omega arith)
+loop-holds c = summed-none
 
 sub-i : tie.Need-sub-i Inv-loop μ-loop
 sub-i c = omega arith
 
 mul-sum : tie.Need-mul-sum Inv-loop μ-loop
-mul-sum c = omega (arith, summed-fits (c .before .loop .inv) (omega arith))
+mul-sum c = omega (arith, summed-fits (c .before .loop .inv) (omega arith) (omega arith))
 
 array-read-if1 : tie.Need-array-read-if1 Inv-loop μ-loop
-array-read-if1 c = omega (arith, c .before .loop .inv .few)
+array-read-if1 c = omega arith
 
 add-sum : tie.Need-add-sum Inv-loop μ-loop
-add-sum c = omega (arith, summed-fits (c .before .before .loop .inv) (omega arith))
+add-sum c = omega (arith, summed-fits (c .before .before .loop .inv) (omega arith) (omega arith))
 
 loop-less : tie.Need-loop-less Inv-loop μ-loop
 loop-less c = omega arith
 
 loop-again : tie.Need-loop-again Inv-loop μ-loop
-loop-again c = summed-more (c .before .before .loop .inv) (omega arith) (rw (c .if1 .taken) (omega arith))
+loop-again c = summed-more (c .before .before .loop .inv) (omega arith) (omega arith) (rw (c .if1 .taken) (omega arith))
 
 loop-less-2 : tie.Need-loop-less-2 Inv-loop μ-loop
 loop-less-2 c = omega arith
 
 loop-again-2 : tie.Need-loop-again-2 Inv-loop μ-loop
-loop-again-2 c = summed-more (c .before .before .loop .inv) (omega arith) (rw (c .if1 .left) (omega arith))
+loop-again-2 c = summed-more (c .before .before .loop .inv) (omega arith) (omega arith) (rw (c .if1 .left) (omega arith))
 
 returns : tie.Need-returns Inv-loop μ-loop
-returns c = summed-all (c .before .loop .inv) (omega arith)
+returns c = (summed-all (c .before .loop .inv) (omega arith), take-all 16 _ (omega arith))
 
 pub digits-spec : {M : Type 1} → statement M
 digits-spec =

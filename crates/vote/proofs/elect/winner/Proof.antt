@@ -1,8 +1,10 @@
 -- `winner` meets its contract. The loop's invariant: the leader of the replicas passed, with its votes.
 use Prim.Native.Nat.{_-_, _<_}
 use native.Mathlib.Omega.{arith}
+use mathlib.Core.Path.{ap, _∙_}
 use mathlib.Core.Logic.{⊎-elim}
-use Rattle.vote.proofs.Winner.{Led, led-none, led-new, led-old, led-all, led-small, counted}
+use Rattle.vote.specs.Decide.{digits}
+use Rattle.vote.proofs.Winner.{Led, led-none, led-new, led-old, led-all}
 use Rattle.vote.proofs.elect.winner.Statement.{statement}
 use Rattle.vote.proofs.elect.winner.Tie as tie
 
@@ -14,7 +16,7 @@ abbrev μ-loop : tie.MeasureT-loop
 
 -- the leader is one of the replicas
 leads : (c : tie.After-loop Inv-loop μ-loop) → c .before .loop .best < 16
-leads c = omega (arith, led-small (c .before .loop .inv) (omega arith) (omega arith))
+leads c = omega (arith, led-all (c .before .loop .inv) (omega arith) (omega arith))
 
 loop-holds : tie.Need-loop-holds Inv-loop μ-loop
 loop-holds c = led-none
@@ -37,8 +39,11 @@ loop-less c = omega arith
 loop-again : tie.Need-loop-again Inv-loop μ-loop
 loop-again c =
     let l = c .before .before .before .before .loop .inv in
-    let e = counted _ (c .before .digits .ensures .0) (c .before .digits .ensures .1) in
-    ⊎-elim (λ w. rw (w .1, w .2) (led-new l (omega arith) e (omega arith))) (λ w. rw (w .1, w .2) (led-old l (omega arith) e (omega arith))) (c .if1 .came)
+    let e = c .before .digits .ensures .0 ∙ ap (digits 1) (c .before .digits .ensures .1) in
+    ⊎-elim
+    (λ w. rw (w .1, w .2) (led-new l (omega arith) e (omega arith)))
+    (λ w. rw (w .1, w .2) (led-old l (omega arith) e (omega arith)))
+    (c .if1 .came)
 
 mul-row-2 : tie.Need-mul-row-2 Inv-loop μ-loop
 mul-row-2 c = omega (arith, leads c)
@@ -52,7 +57,7 @@ digits-requires-2 c κs = omega arith
 returns : tie.Need-returns Inv-loop μ-loop
 returns c =
     let l = led-all (c .before .before .before .loop .inv) (omega arith) (omega arith) in
-    rw (c .digits2 .ensures .0, l .0, l .1)
+    rw (c .digits2 .ensures .0, l .1, l .0)
 
 pub winner-spec : {M : Type 1} → statement M
 winner-spec =
