@@ -1,31 +1,18 @@
 -- Two blocks are alike where they are equal, and comparing goes byte by byte.
 use Prim.Native.Nat.{ℕ, suc, _+_, _*_, _-_, _≤_, _<_}
-use native.Mathlib.Nat.{sub-zero, add-zero, add-sub-cancel-left, suc-mul, mul-le-mul-right}
+use native.Mathlib.Nat.{sub-zero, add-zero, suc-mul, mul-le-mul-right}
 use native.Mathlib.Omega.{arith}
 use mathlib.Core.Path.{_≡_, refl, _∙_}
 use mathlib.Core.Logic.{_↔_}
 use mathlib.Core.Bool.{Bool, true, false, true≢false, _&&_, _||_, and-true, and-false}
 use mathlib.Core.List.{List, _∷_}
-use lib.ListN.{length, getD, take, drop, length-take, length-drop}
+use lib.ListN.{length, getD, take, drop}
 use lib.Seq.{drop-cons}
 use lib.Bits.{bitOr, bitXor, or-add-and, xor-add-and, and-le-l, and-le-r, xor-self}
 use lib.Dec.{eqb}
 use borrow.Author.Tests.{ne-eqb, eqb-true, eqb-false}
 use Rattle.alike.specs.Alike.{alike}
 use Rattle.vote.specs.Groups.{bytesAt, allAlike}
-
--- the part of a slice that starts at `start` and has a block's size
-abbrev pub part : List ℕ → ℕ → ℕ → List ℕ
-part blocks start size = take (start + size - start) (drop start blocks)
-
-module _ (blocks : List ℕ) (start size : ℕ) where
-  -- it is a block
-  pub part-block : part blocks start size ≡ take size (drop start blocks)
-  part-block = rw add-sub-cancel-left
-
-  -- it has a block's size
-  pub part-length : start + size ≤ length blocks → length (part blocks start size) ≡ size
-  part-length h = simp (length-take, length-drop) (omega arith)
 
 -- the block of replica i is among those of k replicas
 pub block-within : (i k size : ℕ) → i < k → i * size + size ≤ k * size

@@ -2,8 +2,8 @@
 use native.Mathlib.Omega.{arith}
 use mathlib.Core.Path.{refl, sym, _∙_}
 use lib.ListN.{length}
-use Rattle.vote.proofs.Decision.{Allowed, allowed, decide-invalid}
-use Rattle.vote.proofs.Decision.{Found, found-small, found-block, found-lost, found-won, found-named, found-put}
+use Rattle.vote.proofs.Decision.{Allowed, allowed, decide-invalid, Found}
+use Rattle.vote.proofs.Decision.{found-small, found-block, found-lost, found-won, found-named, found-put}
 use borrow.Author.Needs.{needs}
 use Rattle.vote.proofs.vote.Statement.{statement}
 use Rattle.vote.proofs.vote.Tie as tie
@@ -32,9 +32,12 @@ allowed-here c = allowed (sym (c .before .is-invalid .ensures) ∙ c .if1 .left)
 -- the table and its winner
 found-here : (c : tie.After-winner)
     → let a = c .before .before .before .before .before .before .args in
-    Found (a .blocks .now) (a .replicas) (a .block-len) (length (a .output .now)) (c .before .agreements .result) (c .winner .result)
+    Found (a .blocks .now) (a .replicas) (a .block-len) (length (a .output .now)) (c .winner .result)
 found-here c =
-    record { numbers = allowed-here (c .before .before); agreed = c .before .agreements .ensures; elects = c .winner .ensures }
+    record {
+      numbers = allowed-here (c .before .before);
+      elects = rw (← c .before .agreements .ensures) (c .winner .ensures);
+    }
 
 agreements-requires : tie.Need-agreements-requires
 agreements-requires c κs = let n = allowed-here c in (n .whole, n .some, n .few)
