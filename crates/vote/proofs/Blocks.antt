@@ -12,7 +12,7 @@ use lib.Bits.{bitOr, bitXor, or-add-and, xor-add-and, and-le-l, and-le-r, xor-se
 use lib.Dec.{eqb}
 use borrow.Author.Tests.{ne-eqb, eqb-true, eqb-false}
 use Rattle.alike.specs.Alike.{alike}
-use Rattle.vote.specs.Groups.{bytesAt, allAlike}
+use Rattle.vote.specs.Groups.{bytesAt, AllWithin, allAlike}
 
 -- the block of replica i is among those of k replicas
 pub block-within : (i k size : ℕ) → i < k → i * size + size ≤ k * size
@@ -51,9 +51,7 @@ differ-step : (s x y z w : ℕ) (p q r : Bool)
     → eqb s 0 && ((eqb x y && p) && ((eqb x z && q) && (eqb x w && r)))
     ≡ eqb (bitOr s (bitOr (bitOr (bitXor x y) (bitXor x z)) (bitXor x w))) 0 && (p && (q && r))
 differ-step s x y z w p q r =
-    rw
-    (or-none s (bitOr (bitOr (bitXor x y) (bitXor x z)) (bitXor x w)), or-none (bitOr (bitXor x y) (bitXor x z)) (bitXor x w), or-none (bitXor x y) (bitXor x z), xor-none x y, xor-none x z, xor-none x w)
-    (sort (eqb s 0) (eqb x y) (eqb x z) (eqb x w))
+    simp (or-none, xor-none) (sort (eqb s 0) (eqb x y) (eqb x z) (eqb x w))
   where
     sort : (s e f g : Bool) → s && ((e && p) && ((f && q) && (g && r))) ≡ (s && ((e && f) && g)) && (p && (q && r))
     sort false e f g = refl
@@ -82,8 +80,7 @@ module _ {blocks : List ℕ} {n a b c d : ℕ} where
 
   module _ {x i : ℕ} (s : Compared blocks n a b c d x i) where
     -- one byte more
-    pub compared-more : (a + n ≤ length blocks) × (b + n ≤ length blocks) × (c + n ≤ length blocks) × (d + n ≤ length blocks)
-        → i < n
+    pub compared-more : AllWithin blocks n a b c d → i < n
         → let at : ℕ → ℕ = λ p. getD blocks (p + i) 0 in
         let found : ℕ = bitOr (bitOr (bitXor (at a) (at b)) (bitXor (at a) (at c))) (bitXor (at a) (at d)) in
         Compared blocks n a b c d (bitOr x found) (i + 1)
@@ -94,9 +91,12 @@ module _ {blocks : List ℕ} {n a b c d : ℕ} where
           within = omega arith;
           so-far =
               s .so-far
-              ∙ rw
-              (bytes-cons blocks n a i l (h .0), bytes-cons blocks n b i l (h .1), bytes-cons blocks n c i l (h .2), bytes-cons blocks n d i l (h .3))
-              (differ-step x (at a) (at b) (at c) (at d) _ _ _);
+              ∙ rw (
+                bytes-cons blocks n a i l (h .0),
+                bytes-cons blocks n b i l (h .1),
+                bytes-cons blocks n c i l (h .2),
+                bytes-cons blocks n d i l (h .3),
+              ) (differ-step x (at a) (at b) (at c) (at d) _ _ _);
         }
 
     -- all compared

@@ -12,7 +12,8 @@ use Rattle.vote.specs.declared.elect.Elected.{Elected}
 use Rattle.vote.specs.Groups.{electedOf}
 use lib.Seq.{take-all}
 use Rattle.writing.specs.Overwrite.{overwrite}
-use Rattle.vote.specs.Decide.{blockOf, tabulate, agree, agreements, digits, votes, maskOf, leader, invalid, won, lost, count, decide}
+use Rattle.vote.specs.Decide.{blockOf, tabulate, agree, agreements, digits, votes, maskOf, leader}
+use Rattle.vote.specs.Decide.{invalid, won, lost, count, decide}
 use Rattle.alike.proofs.Equal.{alike-self}
 use Rattle.vote.proofs.Blocks.{block-within, neither}
 use Rattle.vote.proofs.Tables.{tabulate-at}
@@ -91,15 +92,19 @@ module _ {blocks : List ℕ} {k size n : ℕ} {w : Elected} (e : Found blocks k 
 
   -- with more its block wins
   pub found-won : 2 ≤ w .count
-      → (decide blocks k size n ≡ won row (blockOf blocks size (w .replica))) × (w .count ≡ votes row) × (w .mask ≡ maskOf row)
+      → (decide blocks k size n ≡ won row (blockOf blocks size (w .replica)))
+      × (w .count ≡ votes row)
+      × (w .mask ≡ maskOf row)
   unfolding decide count
-  found-won h = (rw (← is-row, e .elects, e .numbers .valid, decide, le-ltb _ 2 (rw (e .elects) at h), count), counts, masks)
+  found-won h =
+      (rw (← is-row, e .elects, e .numbers .valid, decide, le-ltb _ 2 (rw (e .elects) at h), count), counts, masks)
 
   -- it agrees with itself, so its bit is set in the mask
   pub found-named : maskOf row / 2 ^ w .replica % 2 ≡ 1
   found-named =
-      rw
-      (mask-bit, tabulate-at (agree blocks k size (w .replica)) false 16 (w .replica) found-small, lt-ltb (w .replica) k within, alike-self)
+      let own : getD row (w .replica) false ≡ agree blocks k size (w .replica) (w .replica) =
+      tabulate-at (agree blocks k size (w .replica)) false 16 (w .replica) found-small in
+      rw (mask-bit, own, lt-ltb (w .replica) k within, alike-self)
 
   -- its block is put to the front of an output
   pub found-put : (output : List ℕ) → length output ≡ n

@@ -43,15 +43,19 @@ module _ {test : ℕ → Bool} {step most : ℕ} where
 -- what is found is told by three facts: it is in reach, none before it passes, and it does itself if it is not the end
 pub first-is : (test : ℕ → Bool) {k r : ℕ} → r ≤ k → ((j : ℕ) → j < r → test j ≡ false) → (r < k → test r ≡ true)
     → r ≡ first test 0 k
-first-is test {k} {r} l before passes = go (decLt r (first test 0 k)) (decLt (first test 0 k) r) (first-range test 0 k)
-  where
-    go : Dec (r < first test 0 k) → Dec (first test 0 k < r) → (0 ≤ first test 0 k) × (first test 0 k ≤ 0 + k) → r ≡ first test 0 k
-    go (yes h) d range = absurd (true≢false (sym (passes (omega arith)) ∙ first-before test 0 k r (omega arith) h))
-    go (no h) (yes g) range = absurd (true≢false (sym (first-passes test 0 k (omega arith)) ∙ before _ g))
-    go (no h) (no g) range = omega arith
+first-is test {k} {r} l before passes =
+    let range : first test 0 k ≤ k = omega (arith, first-range test 0 k) in
+    elim (decLt r (first test 0 k)) [
+      | yes h ↦ absurd (true≢false (sym (passes (omega arith)) ∙ first-before test 0 k r (omega arith) h))
+      | no h ↦ elim (decLt (first test 0 k) r) [
+        | yes g ↦ absurd (true≢false (sym (first-passes test 0 k (omega arith)) ∙ before _ g))
+        | no g ↦ omega arith
+      ]
+    ]
 
 -- tests that agree find the same
-pub first-agree : (test other : ℕ → Bool) (k : ℕ) → ((j : ℕ) → j < k → other j ≡ test j) → first test 0 k ≡ first other 0 k
+pub first-agree : (test other : ℕ → Bool) (k : ℕ) → ((j : ℕ) → j < k → other j ≡ test j)
+    → first test 0 k ≡ first other 0 k
 first-agree test other k h =
     let l : first test 0 k ≤ k = omega (arith, first-range test 0 k) in
     first-is

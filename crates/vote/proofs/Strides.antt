@@ -1,10 +1,11 @@
--- Bytes compared by strides, and from there on where they begin alike.
+-- Bytes compared by strides, and from there on where they begin alike; how many strides all blocks share.
 use Prim.Native.Nat.{ℕ, zero, suc, _+_, _*_, _-_, _/_, _≤_, _<_}
-use native.Mathlib.Nat.{div-mul-le-self, div-add-mod', mod-lt, zero-add, zero-mul, suc-mul, suc-add}
+use native.Mathlib.Nat.{div-mul-le-self, div-add-mod', mod-lt, zero-add, zero-mul, suc-mul, suc-add, add-mul}
+use native.Mathlib.Nat.{mul-le-mul-right}
 use native.Mathlib.Decide.{ℕ-discrete}
 use native.Mathlib.Omega.{arith}
 use mathlib.Core.Path.{_≡_, refl, sym, ap, ap₂, _∙_}
-use mathlib.Core.Bool.{Bool, true, false, false≢true, not, and-self}
+use mathlib.Core.Bool.{Bool, true, false, false≢true, not, _&&_, _||_, and-self}
 use mathlib.Core.List.{List, [], _∷_, _++_}
 use lib.ListN.{take, drop, take-append-drop}
 use lib.Seq.{take-nil, take-take, take-add, drop-drop}
@@ -13,10 +14,9 @@ use Rattle.search.specs.First.{first}
 use Rattle.search.proofs.First.{first-range, first-passes, first-before}
 use Rattle.alike.specs.Alike.{alike}
 use Rattle.alike.proofs.Equal.{alike-self, alike-equal, same-told}
-use Rattle.vote.specs.Decide.{blockOf}
-use Rattle.vote.specs.Groups.{bytesAt, allAlike, differ, matching, strays, shared, lowestFrom, lowest}
+use Rattle.vote.specs.Groups.{bytesAt, differ, matching, follows, strays, shared, lowestFrom, lowest}
 use Rattle.vote.proofs.Blocks.{block-within, neither}
-use Rattle.vote.proofs.Search.{first-agree}
+use Rattle.vote.proofs.Search.{first-is, first-agree, first-either}
 
 -- what follows the first n of some
 drop-take : (n m : ℕ) (xs : List ℕ) → drop n (take (n + m) xs) ≡ take m (drop n xs)
@@ -43,6 +43,9 @@ module _ (blocks : List ℕ) where
       let e : n + (m - n) ≡ m = omega arith in
       rw (← drop-drop n at blocks, ← drop-take n (m - n) (drop at blocks), e)
 
+  bytes-part : (i n m at : ℕ) → i + n ≤ m → take n (drop i (bytesAt blocks m at)) ≡ bytesAt blocks n (at + i)
+  bytes-part i n m at h = rw (bytes-drop i m at (omega arith)) (bytes-take n (m - i) (at + i) (omega arith))
+
   bytes-add : (n m at : ℕ) → bytesAt blocks (n + m) at ≡ bytesAt blocks n at ++ bytesAt blocks m (at + n)
   bytes-add n m at = take-add n m (drop at blocks) ∙ rw drop-drop
 
@@ -61,13 +64,13 @@ module _ (blocks : List ℕ) (stride a b : ℕ) where
 
   -- and are compared by what comes after these
   alike-after : (r i n : ℕ) → i ≤ r * stride → i ≤ n → ((j : ℕ) → j < r → Match j)
-      → alike (bytesAt blocks (n - i) (a + i)) (bytesAt blocks (n - i) (b + i)) ≡ alike (bytesAt blocks n a) (bytesAt blocks n b)
+      → alike (bytesAt blocks (n - i) (a + i)) (bytesAt blocks (n - i) (b + i))
+      ≡ alike (bytesAt blocks n a) (bytesAt blocks n b)
   alike-after r i n l m h =
-      rw (← bytes-drop blocks i n a m, ← bytes-drop blocks i n b m) (alike-rest i _ _ (begin a ∙ ap (take i) whole ∙ sym (begin b)))
+      rw
+      (← bytes-drop blocks i n a m, ← bytes-drop blocks i n b m)
+      (alike-rest i _ _ (begin a ∙ ap (take i) (strides-same r h) ∙ sym (begin b)))
     where
-      whole : bytesAt blocks (r * stride) a ≡ bytesAt blocks (r * stride) b
-      whole = strides-same r h
-
       begin : (at : ℕ) → take i (bytesAt blocks n at) ≡ take i (bytesAt blocks (r * stride) at)
       begin at = bytes-take blocks i n at m ∙ sym (bytes-take blocks i (r * stride) at l)
 
@@ -87,17 +90,16 @@ module _ (blocks : List ℕ) (stride n a b : ℕ) {m : ℕ} (e : m ≡ matching 
 
   pub strided-less : m < (n - 1) / stride → false ≡ alike (bytesAt blocks n a) (bytesAt blocks n b)
   strided-less h =
-      let fits : m * stride + stride ≤ n = omega (arith, block-within m ((n - 1) / stride) stride h, strides-fit n stride) in
       same-told (bytesAt blocks n a) (bytesAt blocks n b) false (λ z. absurd (false≢true z)) (λ q.
       let p : bytesAt blocks stride (a + m * stride) ≡ bytesAt blocks stride (b + m * stride) =
-      sym (part a fits) ∙ ap (λ (x : List ℕ). take stride (drop (m * stride) x)) q ∙ part b fits in
+      sym (part a) ∙ ap (λ (x : List ℕ). take stride (drop (m * stride) x)) q ∙ part b in
       rw (p, alike-self) at passes)
     where
-      part : (at : ℕ) → m * stride + stride ≤ n → take stride (drop (m * stride) (bytesAt blocks n at)) ≡ bytesAt blocks stride (at + m * stride)
-      part at l =
-          rw
-          (bytes-drop blocks (m * stride) n at (omega arith))
-          (bytes-take blocks stride (n - m * stride) (at + m * stride) (omega arith))
+      fits : m * stride + stride ≤ n
+      fits = omega (arith, block-within m ((n - 1) / stride) stride h, strides-fit n stride)
+
+      part : (at : ℕ) → take stride (drop (m * stride) (bytesAt blocks n at)) ≡ bytesAt blocks stride (at + m * stride)
+      part at = bytes-part blocks (m * stride) stride n at fits
 
       passes : test m ≡ true
       passes = rw e (first-passes test 0 ((n - 1) / stride) (omega (arith, e)))
@@ -119,8 +121,20 @@ module _ (blocks : List ℕ) (size : ℕ) where
   pub shared-fits : (k : ℕ) → shared blocks size k * 256 ≤ size
   shared-fits k = omega (arith, first-range (strays blocks size k) 0 (size / 256))
 
+  -- one of the first strays, or not both the next and others follow
+  strays-more : (i n : ℕ) (others : Bool)
+      → strays blocks size i n || not (follows blocks size i n && others) ≡ strays blocks size (suc i) n || not others
+  unfolding strays
+  strays-more i n others = go (strays blocks size i n) (follows blocks size i n)
+    where
+      go : (t x : Bool) → t || not (x && others) ≡ (t || not x) || not others
+      go true x = refl
+      go false true = refl
+      go false false = refl
+
   -- where none strays each has the stride of replica 0
-  stays : (k j n : ℕ) → j < k → strays blocks size k n ≡ false → bytesAt blocks 256 (0 + n * 256) ≡ bytesAt blocks 256 (j * size + n * 256)
+  stays : (k j n : ℕ) → j < k → strays blocks size k n ≡ false
+      → bytesAt blocks 256 (0 + n * 256) ≡ bytesAt blocks 256 (j * size + n * 256)
   unfolding strays
   stays zero j n h e = absurd (omega arith)
   stays (suc k) j n h e =
@@ -131,12 +145,79 @@ module _ (blocks : List ℕ) (size : ℕ) where
       ]
 
   -- replicas that begin alike are told apart by what is left
-  pub lowest-rest : (k i : ℕ) {n : ℕ} → i < k → n ≡ shared blocks size k → lowestFrom blocks size (n * 256) i ≡ lowest blocks size i
+  pub lowest-rest : (k i : ℕ) {n : ℕ} → i < k → n ≡ shared blocks size k
+      → lowestFrom blocks size (n * 256) i ≡ lowest blocks size i
   lowest-rest k i {n = n} l q =
-      first-agree _ _ i (λ j m. sym (alike-after blocks 256 (j * size) (i * size) n (n * 256) size (omega arith) fits (λ s b. sym (own j s (omega arith) b) ∙ own i s l b)))
+      first-agree _ _ i (λ j m.
+      sym (alike-after blocks 256 (j * size) (i * size) n (n * 256) size (omega arith) fits (λ s b.
+      sym (own j s (omega arith) b) ∙ own i s l b)))
     where
       fits : n * 256 ≤ size
       fits = rw q (shared-fits k)
 
       own : (j s : ℕ) → j < k → s < n → bytesAt blocks 256 (0 + s * 256) ≡ bytesAt blocks 256 (j * size + s * 256)
       own j s h b = stays k j s h (first-before (strays blocks size k) 0 (size / 256) s (omega arith) (rw q at b))
+
+-- the first i of k blocks were compared, and they share `most` strides
+pub record Sharing (blocks : List ℕ) (k size most start i : ℕ) : Type 0 where
+  pub place : start ≡ i * size
+  pub within : i ≤ k
+  pub so-far : most ≡ shared blocks size i
+
+module _ {blocks : List ℕ} {k size : ℕ} where
+  -- replica 0 alone
+  pub sharing-none : (i : ℕ) → i ≡ 1 → 0 < k → Sharing blocks k size (size / 256) size i
+  unfolding strays
+  sharing-none i e h =
+      let all : size / 256 ≡ shared blocks size 1 =
+      first-is (strays blocks size 1) (omega arith) (λ j l. rw (zero-mul, alike-self)) (λ l. absurd (omega arith)) in
+      rw e record { place = omega arith; within = omega arith; so-far = all }
+
+  module _ {most start i : ℕ} (s : Sharing blocks k size most start i) where
+    -- the strides are within each block of m more
+    pub sharing-room : (m : ℕ) → i + m ≤ k → (start + m * size ≤ k * size) × (most * 256 ≤ size)
+    sharing-room m h =
+        let r : (i + m) * size ≤ k * size = mul-le-mul-right size h in
+        omega (arith, s .place, add-mul i m size, s .so-far, shared-fits blocks size i)
+
+    -- none is left
+    pub sharing-all : k ≤ i → most ≡ shared blocks size k
+    sharing-all h = let e : i ≡ k = omega (arith, s .within) in rw e at s .so-far
+
+    -- more were compared by a test that one of them strays
+    sharing-more : (j : ℕ) (test : ℕ → Bool) → ((n : ℕ) → strays blocks size i n || test n ≡ strays blocks size j n)
+        → first test 0 most ≡ shared blocks size j
+    sharing-more j test h = rw (s .so-far) (first-either (strays blocks size i) test _ (size / 256) h)
+
+    -- three
+    pub sharing-three : {next : ℕ} (j : ℕ) → j ≡ suc (suc (suc i)) → j ≤ k
+        → next ≡ matching blocks 256 0 start (start + size) (start + size + size) most
+        → Sharing blocks k size next (start + size + size + size) j
+    unfolding strays
+    sharing-three j q h e =
+        let yet : ℕ → ℕ → Bool = follows blocks size in
+        rw q record {
+          place = rw (suc-mul, suc-mul, suc-mul, s .place);
+          within = omega arith;
+          so-far =
+              e
+              ∙ rw (s .place, ← suc-mul i size, ← suc-mul (suc i) size) (sharing-more (suc (suc (suc i))) _ (λ n.
+              strays-more blocks size i n (yet (suc i) n && yet (suc (suc i)) n)
+              ∙ strays-more blocks size (suc i) n (yet (suc (suc i)) n)));
+        }
+
+    -- the last one, and the last two
+    pub sharing-last : {r : ℕ} → suc i ≡ k → r ≡ matching blocks 256 0 start start start most
+        → r ≡ shared blocks size k
+    unfolding strays
+    sharing-last h e = rw (← h) (e ∙ rw (s .place) (sharing-more (suc i) _ (λ n. rw (and-self, and-self))))
+
+    pub sharing-last-two : {r : ℕ} → suc (suc i) ≡ k
+        → r ≡ matching blocks 256 0 start (start + size) (start + size) most → r ≡ shared blocks size k
+    unfolding strays
+    sharing-last-two h e =
+        rw
+        (← h)
+        (e
+        ∙ rw (s .place, ← suc-mul i size) (sharing-more (suc (suc i)) _ (λ n.
+        rw and-self (strays-more blocks size i n (follows blocks size (suc i) n)))))

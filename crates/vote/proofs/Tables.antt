@@ -54,7 +54,11 @@ module _ {A : Type 0} {f : ℕ → A} {a : A} where
           front =
               take-suc-set out n v l
               ∙ rw (filled .front, e, ← tabulate-at f a 16 n h) (sym (take-suc whole n a h));
-          rest = drop-set-lt (suc n) out n v (omega arith) ∙ tail out ∙ ap (drop 1) (filled .rest) ∙ sym (tail (replicate 16 a));
+          rest =
+              drop-set-lt (suc n) out n v (omega arith)
+              ∙ tail out
+              ∙ ap (drop 1) (filled .rest)
+              ∙ sym (tail (replicate 16 a));
         }
       where
         tail : (xs : List A) → drop (suc n) xs ≡ drop 1 (drop n xs)
@@ -64,5 +68,6 @@ module _ {A : Type 0} {f : ℕ → A} {a : A} where
     pub filled-all : ((j : ℕ) → n ≤ j → j < 16 → a ≡ f j) → out ≡ tabulate f 0 16
     unfolding tabulate
     filled-all h =
-        let others : drop n out ≡ drop n (tabulate f 0 16) = filled .rest ∙ tabulate-same (λ j. a) f 0 16 n (λ j l m. h j (omega arith) m) in
-        sym (take-append-drop n out) ∙ ap₂ _++_ (filled .front) others ∙ take-append-drop n (tabulate f 0 16)
+        let others : drop n (replicate 16 a) ≡ drop n (tabulate f 0 16) =
+        tabulate-same (λ j. a) f 0 16 n (λ j l m. h j (omega arith) m) in
+        sym (take-append-drop n out) ∙ ap₂ _++_ (filled .front) (filled .rest ∙ others) ∙ take-append-drop n _

@@ -65,7 +65,8 @@ module _ {base : ℕ} {row : List Bool} {n : ℕ} where
     -- the next sum fits
     pub summed-fits : base ≤ 2 → n ≤ 16 → base * sum + 1 < 2 ^ 32
     summed-fits h l =
-        let few : 2 ^ length (drop i (take n row)) ≤ 2 ^ 16 = pow-mono {j = 16} (simp (length-drop, length-take) (omega arith)) in
+        let few : 2 ^ length (drop i (take n row)) ≤ 2 ^ 16 =
+        pow-mono {j = 16} (simp (length-drop, length-take) (omega arith)) in
         let twice : base * sum ≤ 2 * sum = mul-le-mul-right sum h in
         omega (arith, digits-lt base (drop i (take n row)) h, s .so-far)
 
@@ -94,7 +95,8 @@ module _ {base : ℕ} {row : List Bool} {n : ℕ} where
 pub leader-le : (table : List (List Bool)) (n : ℕ) → leader table n ≤ n - 1
 unfolding leader
 leader-le table zero = omega arith
-leader-le table (suc n) = go (ltb (votes (getD table (leader table n) [])) (votes (getD table n []))) (leader-le table n)
+leader-le table (suc n) =
+    go (ltb (votes (getD table (leader table n) [])) (votes (getD table n []))) (leader-le table n)
   where
     go : (t : Bool) → leader table n ≤ n - 1 → elim t [ true ↦ n | false ↦ leader table n ] ≤ suc n - 1
     go true rest = omega arith

@@ -69,7 +69,12 @@ leader table (suc i) =
 -- a number of replicas, a length of block, a length of buffer or of output that is not allowed (the paper's bad ballot)
 abbrev pub invalid : ℕ → ℕ → ℕ → ℕ → Bool
 invalid blocksLength k size outputLength =
-    ltb k fewest || ltb most k || ltb size 1 || ltb longest size || not (eqb blocksLength (k * size)) || ltb outputLength size
+    ltb k fewest
+    || ltb most k
+    || ltb size 1
+    || ltb longest size
+    || not (eqb blocksLength (k * size))
+    || ltb outputLength size
 
 -- what a vote comes to: the row of the winning replicas and the block that they share, or a refusal
 pub data Decision : Type 0 where
@@ -81,7 +86,10 @@ unfoldable pub count : List ℕ → ℕ → ℕ → Decision
 count blocks k size =
     let table : List (List Bool) = agreements blocks k size in
     let best : ℕ = leader table k in
-    elim (ltb (votes (getD table best [])) 2) [ true ↦ lost NoAgreement | false ↦ won (getD table best []) (blockOf blocks size best) ]
+    elim (ltb (votes (getD table best [])) 2) [
+      | true ↦ lost NoAgreement
+      | false ↦ won (getD table best []) (blockOf blocks size best)
+    ]
 
 unfoldable pub decide : List ℕ → ℕ → ℕ → ℕ → Decision
 decide blocks k size outputLength =

@@ -1,8 +1,8 @@
 -- How comparing and counting go about their work. What the vote promises rests on `Decide` alone.
-use Prim.Native.Nat.{ℕ, zero, suc, _+_, _*_, _-_, _/_}
+use Prim.Native.Nat.{ℕ, zero, suc, _+_, _*_, _-_, _/_, _≤_}
 use mathlib.Core.Bool.{Bool, true, false, not, _&&_, _||_}
 use mathlib.Core.List.{List, []}
-use lib.ListN.{getD, take, drop}
+use lib.ListN.{length, getD, take, drop}
 use lib.Dec.{ltb, eqb}
 use Rattle.search.specs.First.{first}
 use Rattle.vote.specs.declared.elect.Elected.{Elected}
@@ -14,6 +14,12 @@ use Rattle.vote.specs.Decide.{blockOf, tabulate, digits, votes, leader}
 -- the n bytes at a place
 abbrev pub bytesAt : List ℕ → ℕ → ℕ → List ℕ
 bytesAt blocks n at = take n (drop at blocks)
+
+-- the n bytes at four places are among the blocks
+abbrev pub AllWithin : List ℕ → ℕ → ℕ → ℕ → ℕ → ℕ → Type 0
+AllWithin blocks n a b c d =
+    let all : ℕ = length blocks in
+    (a + n ≤ all) × (b + n ≤ all) × (c + n ≤ all) × (d + n ≤ all)
 
 -- the bytes at three places are those at the first
 abbrev pub allAlike : List ℕ → ℕ → ℕ → ℕ → ℕ → ℕ → Bool

@@ -4,18 +4,19 @@ ghost use Prim.Native.Nat.{_+_, _*_, _≤_, _<_};
 ghost use lib.ListN.{length, getD};
 ghost use Rattle.alike.specs.Alike.{alike};
 ghost use Rattle.vote.specs.Decide.{tabulate, agreements};
-ghost use Rattle.vote.specs.Groups.{bytesAt, allAlike, matching, shared, lowestFrom, instead, groupsOf, together};
+ghost use Rattle.vote.specs.Groups.{bytesAt, AllWithin, allAlike, matching, shared, lowestFrom};
+ghost use Rattle.vote.specs.Groups.{instead, groupsOf, together};
 
 // Blocks are compared a stride at a time; a block under a stride, by shorter ones.
 const STRIDE: usize = 256;
 
 const SHORT_STRIDE: usize = 16;
 
-// Whether the n bytes at three places are those at the first. It has no early exit, so that it is vector code, without a loop where n is known;
-// and it reads the first once for three. Where a place is passed twice the compiler compares it once.
+// Whether the n bytes at three places are those at the first. It has no early exit, so that it is vector code, without
+// a loop where n is known; and it reads the first once for three. Where a place is passed twice the compiler compares
+// it once.
 fn folded(blocks: &[u8], n: usize, a: usize, b: usize, c: usize, d: usize) -> bool
-    requires { let all = length (now blocks) in
-        ⌜ (a + n ≤ all) × (b + n ≤ all) × (c + n ≤ all) × (d + n ≤ all) ⌝ }
+    requires { ⌜ AllWithin (now blocks) n a b c d ⌝ }
     ensures { λ r. ⌜ r ≡ allAlike (now (blocks .entry)) n a b c d ⌝ }
 {
     let mut differ: u8 = 0;
@@ -46,9 +47,7 @@ fn matching(
     c: usize,
     d: usize,
 ) -> usize
-    requires { let all = length (now blocks) in
-        let n = most * stride in
-        ⌜ (a + n ≤ all) × (b + n ≤ all) × (c + n ≤ all) × (d + n ≤ all) ⌝ }
+    requires { ⌜ AllWithin (now blocks) (most * stride) a b c d ⌝ }
     ensures { λ r. ⌜ r ≡ matching (now (blocks .entry)) stride a b c d most ⌝ }
 {
     let mut at: usize = 0;
@@ -64,7 +63,8 @@ fn matching(
     most
 }
 
-// Whether the n bytes at two places are the same, by strides. The last ends with them and may overlap the one before, so that all have one length.
+// Whether the n bytes at two places are the same, by strides. The last ends with them and may overlap the one before,
+// so that all have one length.
 fn strided(blocks: &[u8], stride: usize, n: usize, a: usize, b: usize) -> bool
     requires { ⌜ (0 < stride) × (stride ≤ n) × (a + n ≤ length (now blocks)) × (b + n ≤ length (now blocks)) ⌝ }
     ensures { λ r. ⌜ r ≡ alike (bytesAt (now (blocks .entry)) n a) (bytesAt (now (blocks .entry)) n b) ⌝ }
@@ -90,7 +90,8 @@ fn same(blocks: &[u8], n: usize, a: usize, b: usize) -> bool
     strided(blocks, STRIDE, n, a, b)
 }
 
-// How many strides from the first on are the same in all blocks. These are compared with replica 0 alone, each as far as those before it match.
+// How many strides from the first on are the same in all blocks. These are compared with replica 0 alone, each as far
+// as those before it match.
 fn shared(blocks: &[u8], replicas: usize, block_len: usize) -> usize
     requires { ⌜ (length (now blocks) ≡ replicas * «block_len») × (0 < replicas) ⌝ }
     ensures { λ r. ⌜ r ≡ shared (now (blocks .entry)) «block_len» replicas ⌝ }
@@ -153,7 +154,8 @@ fn replaced(old: [u8; 16], a: u8, b: u8) -> [u8; 16]
     out
 }
 
-// Of each replica the lowest alike. Two agree where these are equal, and a replica is compared with earlier ones only until one is alike.
+// Of each replica the lowest alike. Two agree where these are equal, and a replica is compared with earlier ones only
+// until one is alike.
 fn groups(blocks: &[u8], replicas: usize, block_len: usize) -> [u8; 16]
     requires { ⌜ (length (now blocks) ≡ replicas * «block_len») × (0 < replicas) × (replicas ≤ 16) ⌝ }
     ensures { λ r. ⌜ r ≡ groupsOf (now (blocks .entry)) replicas «block_len» ⌝ }

@@ -1,4 +1,5 @@
--- `vote::vote` meets its contract: a refusal for numbers that are not allowed or a winner with one vote, else the winner's block.
+-- `vote::vote` meets its contract: a refusal for numbers that are not allowed or a winner with one vote, else the
+-- winner's block.
 use native.Mathlib.Omega.{arith}
 use mathlib.Core.Path.{refl, sym, _∙_}
 use lib.ListN.{length}
@@ -67,7 +68,9 @@ write-requires : tie.Need-write-requires
 write-requires c κs = search needs
 
 cast-t20 : tie.Need-cast-t20
-cast-t20 c = omega (arith, found-small (found-here (c .before .before .before .before .before .before .before .before .before)))
+cast-t20 c =
+    let d = c .before .before .before .before .before .before in
+    omega (arith, found-small (found-here (d .before .before .before)))
 
 same-length : tie.Need-same-length
 same-length c = search needs
@@ -78,7 +81,8 @@ returns-3 c =
     let e = found-here (d .before .before) in
     let won = found-won e (d .if2 .left) in
     let output = d .before .before .before .before .before .before .before .before .args .output .now in
-    rw (won .0, won .1, won .2) ((refl, c .before .before .before .write .ensures .1 ∙ found-put e output refl), λ z. found-named e)
+    let put = c .before .before .before .write .ensures .1 ∙ found-put e output refl in
+    rw (won .0, won .1, won .2) ((refl, put), λ z. found-named e)
 
 pub vote-spec : {M : Type 1} → statement M
 vote-spec =

@@ -47,7 +47,8 @@ add-i c = omega arith
 returns : tie.Need-returns Inv-loop μ-loop
 returns c =
     let a = c .before .before .before .before .before .args in
-    filled-all (filled-more (c .before .before .loop .inv .0) (omega arith) (next (c .before))) (λ j l m. alone (a .blocks .now) (a .replicas) (a .block-len) j (omega arith))
+    let all = filled-more (c .before .before .loop .inv .0) (omega arith) (next (c .before)) in
+    filled-all all (λ j l m. alone (a .blocks .now) (a .replicas) (a .block-len) j (omega arith))
 
 loop-less : tie.Need-loop-less Inv-loop μ-loop
 loop-less c = omega arith

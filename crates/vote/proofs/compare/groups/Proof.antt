@@ -21,8 +21,8 @@ found : (c : tie.After-lowest-alike Inv-loop μ-loop)
     c .lowest-alike .result ≡ lowest (a .blocks .now) (a .block-len) (c .before .before .loop .i)
 found c =
     let a = c .before .before .before .before .before .args in
-    c .lowest-alike .ensures
-    ∙ lowest-rest (a .blocks .now) (a .block-len) (a .replicas) (c .before .before .loop .i) (omega arith) (c .before .before .before .shared .ensures)
+    let all = c .before .before .before .shared .ensures in
+    c .lowest-alike .ensures ∙ lowest-rest (a .blocks .now) (a .block-len) (a .replicas) _ (omega arith) all
 
 shared-requires : tie.Need-shared-requires Inv-loop μ-loop
 shared-requires c κs = omega arith
@@ -33,7 +33,7 @@ mul-from c =
     omega (arith, c .shared .ensures, shared-fits (a .blocks .now) (a .block-len) (a .replicas))
 
 loop-holds : tie.Need-loop-holds Inv-loop μ-loop
-loop-holds c = grouped-none (omega arith) (omega arith)
+loop-holds c = grouped-none (omega arith)
 
 lowest-alike-requires : tie.Need-lowest-alike-requires Inv-loop μ-loop
 lowest-alike-requires c κs =
@@ -46,12 +46,12 @@ lowest-alike-requires c κs =
     )
 
 cast-replaced : tie.Need-cast-replaced Inv-loop μ-loop
-cast-replaced c = omega (arith, c .before .before .loop .inv .few)
+cast-replaced c = omega arith
 
 cast-replaced-2 : tie.Need-cast-replaced-2 Inv-loop μ-loop
 cast-replaced-2 c =
     let a = c .before .before .before .before .before .args in
-    omega (arith, found c, c .before .before .loop .inv .few, lowest-le (a .blocks .now) (a .block-len) (c .before .before .loop .i))
+    omega (arith, found c, lowest-le (a .blocks .now) (a .block-len) (c .before .before .loop .i))
 
 replaced-requires : tie.Need-replaced-requires Inv-loop μ-loop
 replaced-requires c κs = omega arith
@@ -63,7 +63,9 @@ loop-less : tie.Need-loop-less Inv-loop μ-loop
 loop-less c = omega arith
 
 loop-again : tie.Need-loop-again Inv-loop μ-loop
-loop-again c = grouped-more (c .before .before .before .loop .inv) (omega arith) (found (c .before)) (c .replaced .ensures)
+loop-again c =
+    let g = c .before .before .before .loop .inv in
+    grouped-more g (omega arith) (found (c .before)) (c .replaced .ensures)
 
 returns : tie.Need-returns Inv-loop μ-loop
 returns c = grouped-all (c .before .loop .inv) (omega arith)

@@ -11,7 +11,8 @@ use Rattle.vote.proofs.compare.lowest_alike.Tie as tie
 
 abbrev Inv-loop : tie.InvT-loop
 Inv-loop blocks block-len from replica rest own at₀ i₀ at i =
-    Searched (λ at. alike (restOf blocks block-len from at) (restOf blocks block-len from (replica * block-len))) block-len replica at i
+    let rest-at = restOf blocks block-len from in
+    Searched (λ at. alike (rest-at at) (rest-at (replica * block-len))) block-len replica at i
 
 abbrev μ-loop : tie.MeasureT-loop
 μ-loop blocks block-len from replica rest own at₀ i₀ at i = replica - i
@@ -21,7 +22,7 @@ next-within : (c : tie.In-loop Inv-loop μ-loop)
     → let a = c .before .before .before .args in c .before .loop .at + a .block-len ≤ length (a .blocks .now)
 next-within c =
     let a = c .before .before .before .args in
-    omega (arith, c .before .loop .inv .place, block-within (c .before .loop .i) (a .replica) (a .block-len) (omega arith))
+    omega (arith, block-within (c .before .loop .i) (a .replica) (a .block-len) (omega arith))
 
 sub-rest : tie.Need-sub-rest Inv-loop μ-loop
 sub-rest c = omega arith

@@ -1,8 +1,7 @@
 -- `matching` meets its contract. The loop's invariant: the strides passed are the same at all four places.
-use Prim.Native.Nat.{_+_, _-_, _≤_}
+use Prim.Native.Nat.{_+_, _-_}
 use native.Mathlib.Omega.{arith}
-use lib.ListN.{length}
-use Rattle.vote.specs.Groups.{differ}
+use Rattle.vote.specs.Groups.{AllWithin, differ}
 use Rattle.vote.proofs.Blocks.{block-within}
 use Rattle.vote.proofs.Search.{Searched, searched-none, searched-found, searched-more, searched-all}
 use Rattle.vote.proofs.compare.matching.Statement.{statement}
@@ -18,8 +17,7 @@ abbrev μ-loop : tie.MeasureT-loop
 next-within : (c : tie.In-loop Inv-loop μ-loop)
     → let x = c .before .before .before .args in
     let at = c .before .loop .at in
-    let end = length (x .blocks .now) in
-    (x .a + at + x .stride ≤ end) × (x .b + at + x .stride ≤ end) × (x .c + at + x .stride ≤ end) × (x .d + at + x .stride ≤ end)
+    AllWithin (x .blocks .now) (x .stride) (x .a + at) (x .b + at) (x .c + at) (x .d + at)
 next-within c =
     let x = c .before .before .before .args in
     omega (arith, block-within (c .before .loop .n) (x .most) (x .stride) (omega arith))
@@ -53,11 +51,13 @@ loop-less c = omega arith
 
 loop-again : tie.Need-loop-again Inv-loop μ-loop
 loop-again c =
-    searched-more (c .before .before .before .loop .inv) (omega arith) (rw (← c .before .folded .ensures, c .if1 .taken))
+    let s = c .before .before .before .loop .inv in
+    searched-more s (omega arith) (rw (← c .before .folded .ensures, c .if1 .taken))
 
 returns : tie.Need-returns Inv-loop μ-loop
 returns c =
-    searched-found (c .before .before .before .loop .inv) (omega arith) (rw (← c .before .folded .ensures, c .if1 .left))
+    let s = c .before .before .before .loop .inv in
+    searched-found s (omega arith) (rw (← c .before .folded .ensures, c .if1 .left))
 
 returns-2 : tie.Need-returns-2 Inv-loop μ-loop
 returns-2 c = searched-all (c .before .loop .inv) (omega arith)

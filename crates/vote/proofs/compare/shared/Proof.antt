@@ -2,7 +2,8 @@
 use Prim.Native.Nat.{_+_, _*_, _-_, _≤_, _<_}
 use native.Mathlib.Omega.{arith}
 use lib.ListN.{length}
-use Rattle.vote.proofs.Lowest.{Sharing, sharing-none, sharing-room, sharing-three, sharing-all, sharing-last, sharing-last-two}
+use Rattle.vote.proofs.Strides.{Sharing, sharing-none, sharing-room, sharing-three}
+use Rattle.vote.proofs.Strides.{sharing-all, sharing-last, sharing-last-two}
 use Rattle.vote.proofs.compare.shared.Statement.{statement}
 use Rattle.vote.proofs.compare.shared.Tie as tie
 
@@ -15,7 +16,8 @@ abbrev μ-loop : tie.MeasureT-loop
 
 -- those that are left are within the blocks, and the strides within each
 room : (c : tie.At-loop Inv-loop μ-loop) (m : _) → m ≤ c .loop .left
-    → let a = c .before .before .args in (c .loop .b + m * a .block-len ≤ length (a .blocks .now)) × (c .loop .most * 256 ≤ a .block-len)
+    → let a = c .before .before .args in
+    (c .loop .b + m * a .block-len ≤ length (a .blocks .now)) × (c .loop .most * 256 ≤ a .block-len)
 room c m h = let a = c .before .before .args in omega (arith, sharing-room (c .loop .inv .0) m (omega arith))
 
 sub-left : tie.Need-sub-left Inv-loop μ-loop

@@ -36,7 +36,8 @@ loop-less-2 : tie.Need-loop-less-2 Inv-loop μ-loop
 loop-less-2 c = omega arith
 
 loop-again-2 : tie.Need-loop-again-2 Inv-loop μ-loop
-loop-again-2 c = summed-more (c .before .before .loop .inv) (omega arith) (omega arith) (rw (c .if1 .left) (omega arith))
+loop-again-2 c =
+    summed-more (c .before .before .loop .inv) (omega arith) (omega arith) (rw (c .if1 .left) (omega arith))
 
 returns : tie.Need-returns Inv-loop μ-loop
 returns c = (summed-all (c .before .loop .inv) (omega arith), take-all 16 _ (omega arith))
