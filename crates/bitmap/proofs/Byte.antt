@@ -41,7 +41,8 @@ pub ones-more : (r x : ℕ) → onesIn (suc r) x ≡ onesIn r x + x / 2 ^ r % 2
 unfolding onesIn
 ones-more zero x = omega arith
 ones-more (suc r) x =
-    let rest : onesIn (suc r) (x / 2) ≡ onesIn r (x / 2) + x / 2 ^ suc r % 2 = rw (shr-shr x 1 r, one-add) at (ones-more r (x / 2)) in
+    let rest : onesIn (suc r) (x / 2) ≡ onesIn r (x / 2) + x / 2 ^ suc r % 2 =
+    rw (shr-shr x 1 r, one-add) at (ones-more r (x / 2)) in
     omega arith
 
 -- the r lowest bits are those of the remainder by 2 ^ r

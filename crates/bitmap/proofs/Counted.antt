@@ -28,7 +28,8 @@ module _ (b : List ℕ) where
   pub count-past : (n : ℕ) → 8 * length b ≤ n → countSet b (8 * length b) ≡ countSet b n
   unfolding countSet
   count-past =
-      le-ind (λ (m : ℕ). countSet b (8 * length b) ≡ countSet b m) refl (λ m h e. omega (arith, bit-past b m (omega arith)))
+      le-ind (λ (m : ℕ). countSet b (8 * length b) ≡ countSet b m) refl (λ m h e.
+      omega (arith, bit-past b m (omega arith)))
 
   -- the slots before byte j and those of its r lowest bits
   count-bits : (j r : ℕ) → r ≤ 8 → countSet b (8 * j) + onesIn r (getD b j 0) ≡ countSet b (8 * j + r)

@@ -34,7 +34,8 @@ countSet b (suc i) = bit b i + countSet b i
 abbrev pub isClear : List ℕ → ℕ → ℕ → Bool
 isClear b n i = not (isSet b n i)
 
--- the next clear slot above the last one tested, going on from slot 0 past the end (the paper's walk); n where all are set
+-- the next clear slot above the last one tested, going on from slot 0 past the end (the paper's walk); n where all are
+-- set
 unfoldable pub nextClear : List ℕ → ℕ → ℕ → ℕ
 nextClear b n last =
     let above : ℕ = first (isClear b n) (suc last) (n - suc last) in

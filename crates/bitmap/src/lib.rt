@@ -1,4 +1,5 @@
-// One class's bitmap: the bytes that hold it and how many slots it has. Bits beyond the slots are neither tested, counted nor changed.
+// One class's bitmap: the bytes that hold it and how many slots it has. Bits beyond the slots are neither tested,
+// counted nor changed.
 use numbers::least;
 use numbers::wide;
 ghost use mathlib.Core.Path.{_≡_};

@@ -20,21 +20,25 @@ sums b c e p q = omega arith
 
 module _ (r : ℕ) where
   twice : {c : ℕ} → suc c < classes → slotSize (ofRegion (2 * r)) (suc c) ≡ 2 * slotSize (ofRegion r) c
-  twice {c} h = rw (slot-size-of (ofRegion (2 * r)) h, slot-size-of (ofRegion r) {c = c} (omega arith), pow-suc) (omega arith)
+  twice {c} h =
+      rw (slot-size-of (ofRegion (2 * r)) h, slot-size-of (ofRegion r) {c = c} (omega arith), pow-suc) (omega arith)
 
   shifted : {c : ℕ} → suc c < classes → bitmapLength (ofRegion (2 * r)) (suc c) ≡ bitmapLength (ofRegion r) c
   shifted {c} h = rw (twice h, mul-div-mul-left r (slotSize (ofRegion r) c) (zero-lt-suc 1))
 
-  start-shifted : (c : ℕ) → c < classes → bitmapAt (ofRegion (2 * r)) (suc c) ≡ bitmapAt (ofRegion r) c + bitmapLength (ofRegion (2 * r)) 0
+  start-shifted : (c : ℕ) → c < classes
+      → bitmapAt (ofRegion (2 * r)) (suc c) ≡ bitmapAt (ofRegion r) c + bitmapLength (ofRegion (2 * r)) 0
   unfolding bitmapAt
   start-shifted zero h = refl
   start-shifted (suc c) h = omega (arith, start-shifted c (omega arith), shifted h)
 
-  pub doubled : metadataLength (ofRegion (2 * r)) + bitmapLength (ofRegion r) 11 ≡ metadataLength (ofRegion r) + bitmapLength (ofRegion (2 * r)) 0
+  pub doubled : metadataLength (ofRegion (2 * r)) + bitmapLength (ofRegion r) 11
+      ≡ metadataLength (ofRegion r) + bitmapLength (ofRegion (2 * r)) 0
   doubled = sums _ _ _ (start-shifted 11 (omega arith)) (next (ofRegion r) 11)
 
 -- the same for powers of two, as a loop has the lengths
-pub doubled-power : (e : ℕ) {m last front : ℕ} → last ≡ bitmapLength (ofRegion (2 ^ e)) 11 → front ≡ bitmapLength (ofRegion (2 ^ (e + 1))) 0
+pub doubled-power : (e : ℕ) {m last front : ℕ} → last ≡ bitmapLength (ofRegion (2 ^ e)) 11
+    → front ≡ bitmapLength (ofRegion (2 ^ (e + 1))) 0
     → m ≡ metadataLength (ofRegion (2 ^ e))
     → metadataLength (ofRegion (2 ^ (e + 1))) + last ≡ m + front
 doubled-power e p q g =

@@ -1,4 +1,5 @@
--- Laws of the layout over the class and the slot size as variables. What a slot size is, 8 · 2 ^ c, only `slot-size-of` and `slot-size-le` see.
+-- Laws of the layout over the class and the slot size as variables. What a slot size is, 8 · 2 ^ c, only `slot-size-of`
+-- and `slot-size-le` see.
 use Prim.Native.Nat.{ℕ, zero, suc, min, zero-le, _+_, _-_, _*_, _^_, _≤_, _<_}
 use mathlib.Core.Path.{_≡_, refl, sym, ap, subst, _∙_}
 use mathlib.Core.Bool.{Bool, true, false, cond}
@@ -23,7 +24,8 @@ module _ (n : ℕ) {e : ℕ} (rest : first (isHeap n) 10 (21 - 10) ≡ first (is
   pub region-found : e < 21 → n ≡ classes * 2 ^ e → 2 ^ e ≡ regionOf n
   region-found h q = sym (rw (rest ∙ first-found (isHeap n) h (eq-eqb n (classes * 2 ^ e) q), lt-ltb e 21 h))
 
-  pub region-past : e < 21 → (n ≡ classes * 2 ^ e → ⊥) → first (isHeap n) 10 (21 - 10) ≡ first (isHeap n) (e + 1) (21 - (e + 1))
+  pub region-past : e < 21 → (n ≡ classes * 2 ^ e → ⊥)
+      → first (isHeap n) 10 (21 - 10) ≡ first (isHeap n) (e + 1) (21 - (e + 1))
   region-past h q = rest ∙ first-past (isHeap n) h (ne-eqb n (classes * 2 ^ e) q)
 
   pub region-none : 21 ≤ e → 0 ≡ regionOf n
@@ -43,7 +45,10 @@ laid n = go (ltb e 21) refl
     go : (t : Bool) → ltb e 21 ≡ t → Laid n (cond t (2 ^ e) 0)
     go true q =
         let h : e < 21 = ltb-true e 21 q in
-        record { small = pow-mono {i = e} {j = 20} (omega arith); whole = λ some. eqb-true n (classes * 2 ^ e) (first-passes (isHeap n) 10 11 h) }
+        record {
+          small = pow-mono {i = e} {j = 20} (omega arith);
+          whole = λ some. eqb-true n (classes * 2 ^ e) (first-passes (isHeap n) 10 11 h);
+        }
     go false q = record { small = omega arith; whole = λ some. absurd (some refl) }
 
 -- ---- slots
@@ -85,7 +90,8 @@ class-le G size = first-range (holds G size) 0 classes .1
 -- ---- bitmaps
 
 -- a bitmap starts where the one before it ends
-pub bitmap-next : (G : Layout) (c : ℕ) {at n : ℕ} → at ≡ bitmapAt G c → n ≡ bitmapLength G c → at + n ≡ bitmapAt G (c + 1)
+pub bitmap-next : (G : Layout) (c : ℕ) {at n : ℕ} → at ≡ bitmapAt G c → n ≡ bitmapLength G c
+    → at + n ≡ bitmapAt G (c + 1)
 unfolding bitmapAt
 bitmap-next G c p q = rw (add-one, p, q)
 
@@ -102,11 +108,14 @@ clamped : (G : Layout) (c : ℕ) → bitmapAt G c ≡ bitmapAt G (min c classes)
 clamped G c = go (decLe classes c)
   where
     go : Dec (classes ≤ c) → bitmapAt G c ≡ bitmapAt G (min c classes)
-    go (yes h) = subst (λ (n : ℕ). bitmapAt G n ≡ bitmapAt G classes) (add-sub-of-le h) (past G (c - classes)) ∙ ap (bitmapAt G) (omega arith)
+    go (yes h) =
+        subst (λ (n : ℕ). bitmapAt G n ≡ bitmapAt G classes) (add-sub-of-le h) (past G (c - classes))
+        ∙ ap (bitmapAt G) (omega arith)
     go (no h) = ap (bitmapAt G) (omega arith)
 
 -- so a start that is right at one class is right at any that is the same up to the last
-pub bitmap-same : (G : Layout) (c d : ℕ) {at : ℕ} → at ≡ bitmapAt G c → min c classes ≡ min d classes → at ≡ bitmapAt G d
+pub bitmap-same : (G : Layout) (c d : ℕ) {at : ℕ} → at ≡ bitmapAt G c → min c classes ≡ min d classes
+    → at ≡ bitmapAt G d
 bitmap-same G c d p e = p ∙ clamped G c ∙ ap (bitmapAt G) e ∙ sym (clamped G d)
 
 -- starts rise with the class, from the fields' end to the metadata's

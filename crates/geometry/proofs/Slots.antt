@@ -1,7 +1,8 @@
 -- Slots lie apart and within the heap, whatever the slot sizes and the region length.
 use Prim.Native.Nat.{ℕ, suc, _+_, _-_, _*_, _/_, _%_, _≤_, _<_}
 use mathlib.Core.Path.{_≡_, ap, _∙_}
-use native.Mathlib.Nat.{le-trans, pos-of-ne-zero, div-zero, div-mul-le-self, div-add-mod', div-lt-iff-lt-mul, mod-lt, mul-le-mul-right, suc-mul}
+use native.Mathlib.Nat.{le-trans, pos-of-ne-zero, suc-mul, mul-le-mul-right, mod-lt}
+use native.Mathlib.Nat.{div-zero, div-mul-le-self, div-add-mod', div-lt-iff-lt-mul}
 use native.Mathlib.Decide.{decLt}
 use native.Mathlib.Omega.{arith}
 use lib.Arith.{digits-div, digits-mod}
@@ -14,7 +15,9 @@ pub slots-class : (G : Layout) (c i : ℕ) → i < slots G c → c < classes
 slots-class G c i h =
     elim (decLt c classes) [
       | yes l ↦ l
-      | no l ↦ let none : slots G c ≡ 0 = rw (slot-size-past G {c = c} (omega arith)) (div-zero (G .region)) in omega arith
+      | no l ↦
+          let none : slots G c ≡ 0 = rw (slot-size-past G {c = c} (omega arith)) (div-zero (G .region)) in
+          omega arith
     ]
 
 -- where there is a slot, slots have bytes
@@ -23,7 +26,8 @@ slot-size-pos G c i h = pos-of-ne-zero (λ e. let none : slots G c ≡ 0 = rw e 
 
 -- a slot ends within its region
 pub slot-within : (G : Layout) (c i : ℕ) → i < slots G c → i * slotSize G c + slotSize G c ≤ G .region
-slot-within G c i h = rw (← suc-mul) (le-trans (mul-le-mul-right (slotSize G c) h) (div-mul-le-self (G .region) (slotSize G c)))
+slot-within G c i h =
+    rw (← suc-mul) (le-trans (mul-le-mul-right (slotSize G c) h) (div-mul-le-self (G .region) (slotSize G c)))
 
 -- a slot starts within the heap; so does one right after the last
 pub slot-start-le : (G : Layout) {c i : ℕ} → c < classes → i ≤ slots G c → slotStart G c i ≤ heapLength G
@@ -56,7 +60,8 @@ module _ (G : Layout) (offset : ℕ) (some : locate G offset .slot < slots G (lo
   pub into-lt : locate G offset .into < slotSize G (locate G offset .class)
   into-lt = mod-lt (offset % G .region) (slot-size-pos G (offset / G .region) (locate G offset .slot) some)
 
-  pub slot-ends : offset < heapLength G → offset + (slotSize G (locate G offset .class) - locate G offset .into) ≤ heapLength G
+  pub slot-ends : offset < heapLength G
+      → offset + (slotSize G (locate G offset .class) - locate G offset .into) ≤ heapLength G
   slot-ends inside =
       let class : offset / G .region < classes = div-lt-iff-lt-mul {k = G .region} (omega arith) .1 inside in
       let regions : suc (offset / G .region) * G .region ≤ heapLength G = mul-le-mul-right (G .region) class in

@@ -1,4 +1,5 @@
--- The heap (the paper's area), its size classes and regions, and where the metadata (the paper's book) keeps each class's bitmap.
+-- The heap (the paper's area), its size classes and regions, and where the metadata (the paper's book) keeps each
+-- class's bitmap.
 -- No rule here needs a slot size or a region length to be a power of two.
 use Prim.Native.Nat.{ℕ, zero, suc, _+_, _*_, _/_, _%_, _^_}
 use mathlib.Core.Bool.{true, false, cond}

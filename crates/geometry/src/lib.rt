@@ -5,7 +5,8 @@ use numbers::remainder;
 use numbers::wide;
 ghost use mathlib.Core.Path.{_≡_};
 ghost use Prim.Native.Nat.{_+_, _*_, _^_, _<_, _≤_};
-ghost use Rattle.geometry.specs.Layout.{classes, slotSize, slots, classOf, locate, header, bitmapLength, bitmapAt, partOf, planOf};
+ghost use Rattle.geometry.specs.Layout.{classes, slotSize, slots, classOf, locate};
+ghost use Rattle.geometry.specs.Layout.{header, bitmapLength, bitmapAt, partOf, planOf};
 
 pub const CLASSES: usize = 12;
 
@@ -122,8 +123,9 @@ impl Layout {
 }
 
 impl Plan {
-    // The plan of a heap of this length; its region length is 0 where the length is not allowed. Twice a region has one bitmap more in front and all others
-    // a class later. So the sum is made once, and the compiler, which knows where it starts, makes it beforehand.
+    // The plan of a heap of this length; its region length is 0 where the length is not allowed. Twice a region has one
+    // bitmap more in front and all others a class later. So the sum is made once, and the compiler, which knows where
+    // it starts, makes it beforehand.
     pub fn of(heap_len: usize) -> Plan
         ensures { λ r. ⌜ r ≡ planOf «heap_len» ⌝ }
     {

@@ -44,7 +44,8 @@ loop-less c = omega arith
 
 returns : tie.Need-returns Inv-loop μ-loop
 returns c =
-    let all : c .before .loop .at ≡ c .before .before .before .args .bytes = omega arith in rw all at (c .before .loop .inv .1)
+    let all : c .before .loop .at ≡ c .before .before .before .args .bytes = omega arith in
+    rw all at (c .before .loop .inv .1)
 
 pub count-bytes-spec : {M : Type 1} → statement M
 count-bytes-spec =

@@ -1,4 +1,5 @@
--- `bitmap::count_chunk` meets its contract. The loop's invariant: `total` is the count of the bytes passed, at most eight for each.
+-- `bitmap::count_chunk` meets its contract. The loop's invariant: `total` is the count of the bytes passed, at most
+-- eight for each.
 use mathlib.Core.Path.{_≡_}
 use Prim.Native.Nat.{_≤_, _+_, _-_, _*_}
 use native.Mathlib.Nat.{add-zero, add-assoc}
@@ -10,7 +11,8 @@ use Rattle.bitmap.proofs.count_chunk.Statement.{statement}
 use Rattle.bitmap.proofs.count_chunk.Tie as tie
 
 abbrev Inv-loop : tie.InvT-loop
-Inv-loop bitmap from bytes total₀ i₀ total i = (i ≤ bytes) × (total ≤ 8 * i) × (countSet bitmap (8 * from) + total ≡ countSet bitmap (8 * (from + i)))
+Inv-loop bitmap from bytes total₀ i₀ total i =
+    (i ≤ bytes) × (total ≤ 8 * i) × (countSet bitmap (8 * from) + total ≡ countSet bitmap (8 * (from + i)))
 
 abbrev μ-loop : tie.MeasureT-loop
 μ-loop bitmap from bytes total₀ i₀ total i = bytes - i
@@ -40,11 +42,15 @@ loop-again : tie.Need-loop-again Inv-loop μ-loop
 loop-again c = (
   omega arith,
   omega arith,
-  rw (← add-assoc, c .before .before .before .loop .inv .2, c .ones-of .ensures .0, ← add-assoc) (count-byte _ _ (c .before .shared-slice-known2 .given _ .fits)),
+  rw
+      (← add-assoc, c .before .before .before .loop .inv .2, c .ones-of .ensures .0, ← add-assoc)
+      (count-byte _ _ (c .before .shared-slice-known2 .given _ .fits)),
 )
 
 returns : tie.Need-returns Inv-loop μ-loop
-returns c = let all : c .before .loop .i ≡ c .before .before .before .args .bytes = omega arith in rw all at (c .before .loop .inv .2)
+returns c =
+    let all : c .before .loop .i ≡ c .before .before .before .args .bytes = omega arith in
+    rw all at (c .before .loop .inv .2)
 
 pub count-chunk-spec : {M : Type 1} → statement M
 count-chunk-spec =

@@ -1,4 +1,4 @@
--- `bitmap::first_clear` meets its contract. The loop's invariant: the walk from `slot` has the answer of the walk from `from`.
+-- `bitmap::first_clear` meets its contract. The loop's invariant: the walk from `slot` has the whole walk's answer.
 use mathlib.Core.Path.{_≡_, refl, sym, _∙_}
 use Prim.Native.Nat.{_≤_, _-_}
 use native.Mathlib.Omega.{arith}
@@ -24,7 +24,8 @@ is-set-requires c κs = search needs
 
 returns : tie.Need-returns Inv-loop μ-loop
 returns c =
-    sym (c .before .before .before .loop .inv .1 ∙ first-found _ (omega arith) (rw (← c .before .is-set .ensures) (c .if1 .taken)))
+    let rest = c .before .before .before .loop .inv .1 in
+    sym (rest ∙ first-found _ (omega arith) (rw (← c .before .is-set .ensures) (c .if1 .taken)))
 
 add-slot : tie.Need-add-slot Inv-loop μ-loop
 add-slot c = omega arith

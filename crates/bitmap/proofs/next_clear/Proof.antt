@@ -1,4 +1,5 @@
--- `bitmap::next_clear` meets its contract. It walks from slot 0 where `last` has no slot above it, or where all above it are set.
+-- `bitmap::next_clear` meets its contract. It walks from slot 0 where `last` has no slot above it, or all above it are
+-- set.
 use mathlib.Core.Path.{sym, _∙_}
 use mathlib.Core.Logic.{⊎-elim}
 use native.Mathlib.Omega.{arith}

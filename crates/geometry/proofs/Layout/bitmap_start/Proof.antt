@@ -8,7 +8,8 @@ use Rattle.geometry.proofs.Layout.bitmap_start.Statement.{statement}
 use Rattle.geometry.proofs.Layout.bitmap_start.Tie as tie
 
 abbrev Inv-loop : tie.InvT-loop
-Inv-loop self class last at₀ passed₀ at passed = (passed ≤ last) × (at ≡ bitmapAt self passed) × (at ≤ header + passed * 536870912)
+Inv-loop self class last at₀ passed₀ at passed =
+    (passed ≤ last) × (at ≡ bitmapAt self passed) × (at ≤ header + passed * 536870912)
 
 abbrev μ-loop : tie.MeasureT-loop
 μ-loop self class last at₀ passed₀ at passed = last - passed

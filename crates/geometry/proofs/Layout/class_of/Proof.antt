@@ -10,7 +10,8 @@ use Rattle.geometry.proofs.Layout.class_of.Tie as tie
 
 -- what is left of the search finds what the whole one finds
 abbrev Inv-loop : tie.InvT-loop
-Inv-loop self size class₀ class = (class ≤ classes) × (classOf self size ≡ first (holds self size) class (classes - class))
+Inv-loop self size class₀ class =
+    (class ≤ classes) × (classOf self size ≡ first (holds self size) class (classes - class))
 
 abbrev μ-loop : tie.MeasureT-loop
 μ-loop self size class₀ class = classes - class
@@ -34,7 +35,9 @@ loop-less : tie.Need-loop-less Inv-loop μ-loop
 loop-less c = omega arith
 
 loop-again : tie.Need-loop-again Inv-loop μ-loop
-loop-again c = (omega arith, class-past _ _ (c .before .before .before .before .loop .inv .1) (omega arith) (omega arith))
+loop-again c =
+    let rest = c .before .before .before .before .loop .inv .1 in
+    (omega arith, class-past _ _ rest (omega arith) (omega arith))
 
 returns-2 : tie.Need-returns-2 Inv-loop μ-loop
 returns-2 c = class-none _ _ (c .before .loop .inv .1) (omega arith)

@@ -12,7 +12,9 @@ shl-result : tie.Need-shl-result
 shl-result c = search needs
 
 returns : tie.Need-returns
-returns c = shl-exact {a = 8} 4 (c .before .args .class) 64 (lit< tt) (omega arith) ∙ sym (slot-size-of (c .before .args .self) (c .if1 .taken))
+returns c =
+    shl-exact {a = 8} 4 (c .before .args .class) 64 (lit< tt) (omega arith)
+    ∙ sym (slot-size-of (c .before .args .self) (c .if1 .taken))
 
 returns-2 : tie.Need-returns-2
 returns-2 c = sym (slot-size-past (c .before .args .self) (c .if1 .left))

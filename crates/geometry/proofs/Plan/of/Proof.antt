@@ -1,5 +1,5 @@
--- `Plan::of` meets its contract. The loop's invariant: what is left of the search finds what the whole one finds, and the metadata's length is that of
--- the regions reached.
+-- `Plan::of` meets its contract. The loop's invariant: what is left of the search finds what the whole one finds, and
+-- the metadata's length is that of the regions reached.
 use Prim.Native.Nat.{ℕ, _+_, _-_, _*_, _^_, _≤_}
 use mathlib.Core.Path.{_≡_, refl, sym, ap, _∙_}
 use native.Mathlib.Omega.{arith}
@@ -27,7 +27,9 @@ bitmap-start-requires : tie.Need-bitmap-start-requires Inv-loop μ-loop
 bitmap-start-requires c κs = tt
 
 loop-holds : tie.Need-loop-holds Inv-loop μ-loop
-loop-holds c = (omega arith, refl, rw (c .before .power .ensures .0) at (c .bitmap-start .ensures .0), c .bitmap-start .ensures .1)
+loop-holds c =
+    let at = c .bitmap-start .ensures in
+    (omega arith, refl, rw (c .before .power .ensures .0) at (at .0), at .1)
 
 power-requires-2 : tie.Need-power-requires-2 Inv-loop μ-loop
 power-requires-2 c κs = omega arith
@@ -39,14 +41,18 @@ mul-if1 : tie.Need-mul-if1 Inv-loop μ-loop
 mul-if1 c = omega arith
 
 -- a region length and the metadata's length make a plan
-plan : {r r′ m : ℕ} → r ≡ r′ → m ≡ metadataLength (ofRegion r′) → _≡_ {A = Plan} (record { layout = ofRegion r; metadata = m }) (record { layout = ofRegion r′; metadata = metadataLength (ofRegion r′) })
+plan : {r r′ m : ℕ} → r ≡ r′ → m ≡ metadataLength (ofRegion r′)
+    → let made : Plan = record { layout = ofRegion r′; metadata = metadataLength (ofRegion r′) } in
+    record { layout = ofRegion r; metadata = m } ≡ made
 plan p q = rw (p, q)
 
 returns : tie.Need-returns Inv-loop μ-loop
 returns c =
     let loop = c .before .before .before .before .loop in
     let found = region-found _ (loop .inv .1) (omega arith) (omega arith) in
-    plan (c .before .before .power2 .ensures .0 ∙ found) (loop .inv .2 ∙ ap (λ (r : ℕ). metadataLength (ofRegion r)) found)
+    plan
+    (c .before .before .power2 .ensures .0 ∙ found)
+    (loop .inv .2 ∙ ap (λ (r : ℕ). metadataLength (ofRegion r)) found)
 
 add-exponent : tie.Need-add-exponent Inv-loop μ-loop
 add-exponent c = omega arith
@@ -69,7 +75,8 @@ bitmap-length-requires-2 c κs = tt
 -- the lengths of the first bitmap of twice the region and of the last one of the region
 grown : (c : tie.After-bitmap-length2 Inv-loop μ-loop)
     → let loop = c .before .before .before .before .before .before .before .loop in
-    metadataLength (ofRegion (2 ^ (loop .exponent + 1))) + c .bitmap-length2 .result ≡ loop .metadata + c .before .bitmap-length .result
+    metadataLength (ofRegion (2 ^ (loop .exponent + 1))) + c .bitmap-length2 .result
+    ≡ loop .metadata + c .before .bitmap-length .result
 grown c =
     let loop = c .before .before .before .before .before .before .before .loop in
     let last = rw (c .before .before .before .before .before .power2 .ensures .0) at (c .bitmap-length2 .ensures .0) in
@@ -85,7 +92,8 @@ loop-less c = omega arith
 loop-again : tie.Need-loop-again Inv-loop μ-loop
 loop-again c =
     let g = grown c in
-    (omega arith, region-past _ (c .before .before .before .before .before .before .before .loop .inv .1) (omega arith) (λ q. omega arith), omega arith, omega arith)
+    let rest = c .before .before .before .before .before .before .before .loop .inv .1 in
+    (omega arith, region-past _ rest (omega arith) (λ q. omega arith), omega arith, omega arith)
 
 returns-2 : tie.Need-returns-2 Inv-loop μ-loop
 returns-2 c =
