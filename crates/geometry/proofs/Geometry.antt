@@ -1,15 +1,15 @@
 -- Laws of the layout over the class and the slot size as variables. What a slot size is, 8 · 2 ^ c, only `slot-size-of`
 -- and `slot-size-le` see.
-use Prim.Native.Nat.{ℕ, zero, suc, min, zero-le, _+_, _-_, _*_, _^_, _≤_, _<_}
-use mathlib.Core.Path.{_≡_, refl, sym, ap, subst, _∙_}
+use Prim.Native.Nat.{ℕ, suc, min, zero-le, _+_, _-_, _*_, _^_, _≤_, _<_}
+use mathlib.Core.Path.{_≡_, refl, sym, ap, _∙_}
 use mathlib.Core.Bool.{Bool, true, false, cond}
-use native.Mathlib.Nat.{div-zero, le-refl, le-add-right, add-suc, add-zero, add-sub-of-le}
+use native.Mathlib.Nat.{div-zero, le-refl, add-zero}
 use native.Mathlib.Decide.{decLe, decLt, le-ind}
 use native.Mathlib.Numerals.{add-one}
 use native.Mathlib.Omega.{arith}
 use lib.Dec.{leb, ltb, eqb}
 use lib.Pow.{pow-mono}
-use borrow.Author.Tests.{lt-ltb, le-ltb, le-leb, lt-leb, eq-eqb, ne-eqb, eqb-true, ltb-true}
+use borrow.Author.Tests.{lt-ltb, le-ltb, eq-eqb, ne-eqb, eqb-true, ltb-true}
 use Rattle.search.specs.First.{first}
 use Rattle.search.proofs.First.{first-found, first-past, first-none, first-range, first-passes}
 use Rattle.geometry.specs.declared.Layout.{Layout}
@@ -73,16 +73,6 @@ slot-size-le G c = elim (decLt c classes) [
 abbrev pub holds : Layout → ℕ → ℕ → Bool
 holds G size c = leb size (slotSize G c)
 
-module _ (G : Layout) (size : ℕ) {c : ℕ} (rest : classOf G size ≡ first (holds G size) c (classes - c)) where
-  pub class-found : c < classes → size ≤ slotSize G c → c ≡ classOf G size
-  class-found h fits = sym (rest ∙ first-found (holds G size) h (le-leb size (slotSize G c) fits))
-
-  pub class-past : c < classes → slotSize G c < size → classOf G size ≡ first (holds G size) (c + 1) (classes - (c + 1))
-  class-past h small = rest ∙ first-past (holds G size) h (lt-leb size (slotSize G c) small)
-
-  pub class-none : classes ≤ c → c ≡ classOf G size
-  class-none h = sym (rest ∙ first-none (holds G size) h)
-
 -- no class is past the one after the last
 pub class-le : (G : Layout) (size : ℕ) → classOf G size ≤ classes
 class-le G size = first-range (holds G size) 0 classes .1
@@ -96,22 +86,16 @@ unfolding bitmapAt
 bitmap-next G c p q = rw (add-one, p, q)
 
 -- past the last class there are no slots, and no bitmap
-past-one : (G : Layout) (k : ℕ) → bitmapAt G (suc (classes + k)) ≡ bitmapAt G (classes + k)
+past : (G : Layout) (c : ℕ) → classes ≤ c → bitmapAt G classes ≡ bitmapAt G c
 unfolding bitmapAt
-past-one G k = rw (slot-size-past G {c = classes + k} (le-add-right classes k), div-zero (G .region), add-zero)
-
-past : (G : Layout) (k : ℕ) → bitmapAt G (classes + k) ≡ bitmapAt G classes
-past G zero = refl
-past G (suc k) = rw add-suc (past-one G k ∙ past G k)
+past G = le-ind (λ (c : ℕ). bitmapAt G classes ≡ bitmapAt G c) refl (λ c h e.
+    rw (slot-size-past G {c = c} h, div-zero (G .region), add-zero) e)
 
 clamped : (G : Layout) (c : ℕ) → bitmapAt G c ≡ bitmapAt G (min c classes)
-clamped G c = go (decLe classes c)
-  where
-    go : Dec (classes ≤ c) → bitmapAt G c ≡ bitmapAt G (min c classes)
-    go (yes h) =
-        subst (λ (n : ℕ). bitmapAt G n ≡ bitmapAt G classes) (add-sub-of-le h) (past G (c - classes))
-        ∙ ap (bitmapAt G) (omega arith)
-    go (no h) = ap (bitmapAt G) (omega arith)
+clamped G c = elim (decLe classes c) [
+  | yes h ↦ sym (past G c h) ∙ ap (bitmapAt G) (omega arith)
+  | no h ↦ ap (bitmapAt G) (omega arith)
+]
 
 -- so a start that is right at one class is right at any that is the same up to the last
 pub bitmap-same : (G : Layout) (c d : ℕ) {at : ℕ} → at ≡ bitmapAt G c → min c classes ≡ min d classes

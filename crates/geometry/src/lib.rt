@@ -78,8 +78,9 @@ impl Layout {
         ensures { λ r. ⌜ r ≡ locate self offset ⌝ }
     {
         let region = wide(self.region);
-        let class = quotient(wide(offset), region);
-        let within = remainder(wide(offset), region);
+        let at = wide(offset);
+        let class = quotient(at, region);
+        let within = remainder(at, region);
         let size = self.slot_size(class);
         Location {
             class,

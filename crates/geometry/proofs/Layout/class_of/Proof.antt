@@ -1,10 +1,12 @@
 -- `Layout::class_of` meets its contract. The loop's invariant: no class before this one holds the size.
 use Prim.Native.Nat.{_-_, _≤_}
-use mathlib.Core.Path.{_≡_, refl}
+use mathlib.Core.Path.{_≡_, refl, sym, _∙_}
 use native.Mathlib.Omega.{arith}
+use borrow.Author.Tests.{le-leb, lt-leb}
 use Rattle.search.specs.First.{first}
+use Rattle.search.proofs.First.{first-found, first-past, first-none}
 use Rattle.geometry.specs.Layout.{classes, classOf}
-use Rattle.geometry.proofs.Geometry.{holds, class-found, class-past, class-none}
+use Rattle.geometry.proofs.Geometry.{holds}
 use Rattle.geometry.proofs.Layout.class_of.Statement.{statement}
 use Rattle.geometry.proofs.Layout.class_of.Tie as tie
 
@@ -26,7 +28,10 @@ slot-size-requires : tie.Need-slot-size-requires Inv-loop μ-loop
 slot-size-requires c κs = tt
 
 returns : tie.Need-returns Inv-loop μ-loop
-returns c = class-found _ _ (c .before .before .before .before .loop .inv .1) (omega arith) (omega arith)
+returns c =
+    let rest = c .before .before .before .before .loop .inv .1 in
+    let told = rw (c .before .before .wide .ensures .0, c .before .slot-size .ensures) at (c .if1 .taken) in
+    sym (rest ∙ first-found _ (omega arith) (le-leb _ _ told))
 
 add-class : tie.Need-add-class Inv-loop μ-loop
 add-class c = omega arith
@@ -37,10 +42,11 @@ loop-less c = omega arith
 loop-again : tie.Need-loop-again Inv-loop μ-loop
 loop-again c =
     let rest = c .before .before .before .before .loop .inv .1 in
-    (omega arith, class-past _ _ rest (omega arith) (omega arith))
+    let told = rw (c .before .before .wide .ensures .0, c .before .slot-size .ensures) at (c .if1 .left) in
+    (omega arith, rest ∙ first-past _ (omega arith) (lt-leb _ _ told))
 
 returns-2 : tie.Need-returns-2 Inv-loop μ-loop
-returns-2 c = class-none _ _ (c .before .loop .inv .1) (omega arith)
+returns-2 c = sym (c .before .loop .inv .1 ∙ first-none _ (omega arith))
 
 pub class-of-spec : {M : Type 1} → statement M
 class-of-spec =

@@ -12,9 +12,6 @@ wide-requires-2 c κs = search needs
 quotient-requires : tie.Need-quotient-requires
 quotient-requires c κs = search needs
 
-wide-requires-3 : tie.Need-wide-requires-3
-wide-requires-3 c κs = search needs
-
 remainder-requires : tie.Need-remainder-requires
 remainder-requires c κs = search needs
 
@@ -28,7 +25,18 @@ remainder-requires-2 : tie.Need-remainder-requires-2
 remainder-requires-2 c κs = search needs
 
 returns : tie.Need-returns
-returns c = cc
+returns c =
+    let d = c .before .before in
+    let e = d .before .before in
+    rw (
+      c .remainder2 .ensures,
+      c .before .quotient2 .ensures .0,
+      d .slot-size .ensures,
+      d .before .remainder .ensures,
+      e .quotient .ensures .0,
+      e .before .wide2 .ensures .0,
+      e .before .before .wide .ensures .0,
+    )
 
 pub locate-spec : {M : Type 1} → statement M
 locate-spec =
@@ -37,7 +45,6 @@ locate-spec =
     wide-requires
     wide-requires-2
     quotient-requires
-    wide-requires-3
     remainder-requires
     slot-size-requires
     quotient-requires-2

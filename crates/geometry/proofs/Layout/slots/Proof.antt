@@ -14,7 +14,10 @@ quotient-requires : tie.Need-quotient-requires
 quotient-requires c κs = search needs
 
 returns : tie.Need-returns
-returns c = (cc, omega arith)
+returns c =
+    let d = c .before in
+    let divided = rw (d .slot-size .ensures, d .before .wide .ensures .0) at (c .quotient .ensures .0) in
+    (divided, omega arith)
 
 pub slots-spec : {M : Type 1} → statement M
 slots-spec = tie.close (tie.spec wide-requires slot-size-requires quotient-requires returns)
