@@ -13,7 +13,7 @@ use borrow.Author.Tests.{lt-ltb, le-ltb, eq-eqb, ne-eqb, eqb-true, ltb-true}
 use Rattle.search.specs.First.{first}
 use Rattle.search.proofs.First.{first-found, first-past, first-none, first-range, first-passes}
 use Rattle.geometry.specs.declared.Layout.{Layout}
-use Rattle.geometry.specs.Layout.{classes, regionOf, layoutOf, slotSize, classOf, header, bitmapAt, bitmapLength}
+use Rattle.geometry.specs.Layout.{classes, regionOf, slotSize, classOf, header, bitmapAt, bitmapLength}
 
 -- ---- region lengths
 

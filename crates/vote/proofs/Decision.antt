@@ -12,7 +12,7 @@ use Rattle.vote.specs.declared.elect.Elected.{Elected}
 use Rattle.vote.specs.Groups.{electedOf}
 use lib.Seq.{take-all}
 use Rattle.writing.specs.Overwrite.{overwrite}
-use Rattle.vote.specs.Decide.{blockOf, tabulate, agree, agreements, digits, votes, maskOf, leader}
+use Rattle.vote.specs.Decide.{blockOf, tabulate, agree, agreements, digits, votes, maskOf}
 use Rattle.vote.specs.Decide.{invalid, won, lost, count, decide}
 use Rattle.alike.proofs.Equal.{alike-self}
 use Rattle.vote.proofs.Blocks.{block-within, neither}
