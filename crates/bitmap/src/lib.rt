@@ -6,7 +6,7 @@ ghost use mathlib.Core.Path.{_≡_};
 ghost use Prim.Native.Nat.{_+_, _-_, _*_, _/_, _%_, _^_, _<_, _≤_};
 ghost use lib.ListN.{length};
 ghost use Rattle.search.specs.First.{first};
-ghost use lib.Count.{ones, onesIn};
+ghost use lib.Count.{onesIn};
 ghost use Rattle.bitmap.specs.Bitmap.{isSet, isClear, setSlot, clearSlot, countSet, nextClear};
 
 const CHUNK: usize = 16;
@@ -67,12 +67,6 @@ fn ones_below(byte: u8, bits: usize) -> usize
     wide(u8::count_ones(byte % (1 << bits)))
 }
 
-fn ones_of(byte: u8) -> u8
-    ensures { λ r. ⌜ (r ≡ ones byte) × (r ≤ 8) ⌝ }
-{
-    u8::count_ones(byte) as u8
-}
-
 // How many bits of at most sixteen bytes are set. A sum in a byte compiles to sixteen additions at once.
 fn count_chunk(bitmap: &[u8], from: usize, bytes: usize) -> u8
     requires { ⌜ (from + bytes ≤ length (now bitmap)) × (bytes ≤ 16) ⌝ }
@@ -83,7 +77,7 @@ fn count_chunk(bitmap: &[u8], from: usize, bytes: usize) -> u8
     let mut total: u8 = 0;
     let mut i: usize = 0;
     while i < bytes {
-        total += ones_of(bitmap[from + i]);
+        total += u8::count_ones(bitmap[from + i]) as u8;
         i += 1;
     }
     total

@@ -32,18 +32,14 @@ module _ (r : ℕ) where
   start-shifted zero h = refl
   start-shifted (suc c) h = omega (arith, start-shifted c (omega arith), shifted h)
 
-  pub doubled : metadataLength (ofRegion (2 * r)) + bitmapLength (ofRegion r) 11
-      ≡ metadataLength (ofRegion r) + bitmapLength (ofRegion (2 * r)) 0
-  doubled = sums _ _ _ (start-shifted 11 (omega arith)) (next (ofRegion r) 11)
-
--- the same for powers of two, as a loop has the lengths
+-- so for powers of two, as a loop has the lengths
 pub doubled-power : (e : ℕ) {m last front : ℕ} → last ≡ bitmapLength (ofRegion (2 ^ e)) 11
     → front ≡ bitmapLength (ofRegion (2 ^ (e + 1))) 0
     → m ≡ metadataLength (ofRegion (2 ^ e))
     → metadataLength (ofRegion (2 ^ (e + 1))) + last ≡ m + front
 doubled-power e p q g =
     let power : 2 ^ (e + 1) ≡ 2 * 2 ^ e = rw (add-one, pow-suc) (mul-comm (2 ^ e) 2) in
-    rw (p, q, g, power) (doubled (2 ^ e))
+    rw (p, q, g, power) (sums _ _ _ (start-shifted (2 ^ e) 11 (omega arith)) (next (ofRegion (2 ^ e)) 11))
 
 -- no heap has no bitmaps
 pub no-bitmaps : (c : ℕ) → bitmapAt (ofRegion 0) c ≡ header

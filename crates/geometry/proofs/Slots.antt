@@ -10,19 +10,16 @@ use Rattle.geometry.specs.declared.Layout.{Layout}
 use Rattle.geometry.specs.Layout.{classes, heapLength, slotSize, slots, slotStart, locate}
 use Rattle.geometry.proofs.Geometry.{slot-size-past}
 
--- only a class below the last has slots
-pub slots-class : (G : Layout) (c i : ℕ) → i < slots G c → c < classes
-slots-class G c i h =
-    elim (decLt c classes) [
-      | yes l ↦ l
-      | no l ↦
-          let none : slots G c ≡ 0 = rw (slot-size-past G {c = c} (omega arith)) (div-zero (G .region)) in
-          omega arith
-    ]
-
 -- where there is a slot, slots have bytes
 pub slot-size-pos : (G : Layout) (c i : ℕ) → i < slots G c → 0 < slotSize G c
 slot-size-pos G c i h = pos-of-ne-zero (λ e. let none : slots G c ≡ 0 = rw e (div-zero (G .region)) in omega arith)
+
+-- only a class below the last has slots
+pub slots-class : (G : Layout) (c i : ℕ) → i < slots G c → c < classes
+slots-class G c i h = elim (decLt c classes) [
+  | yes l ↦ l
+  | no l ↦ absurd (omega (arith, slot-size-pos G c i h, slot-size-past G {c = c} (omega arith)))
+]
 
 -- a slot ends within its region
 pub slot-within : (G : Layout) (c i : ℕ) → i < slots G c → i * slotSize G c + slotSize G c ≤ G .region

@@ -10,6 +10,8 @@ ghost use Rattle.geometry.specs.Layout.{header, bitmapLength, bitmapAt, 
 
 pub const CLASSES: usize = 12;
 
+const LAST_CLASS: usize = 11;
+
 // The length of the metadata's fields before the bitmaps.
 const HEADER: usize = 8;
 
@@ -144,7 +146,7 @@ impl Plan {
             let twice = Layout {
                 region: power(exponent),
             };
-            metadata = metadata + twice.bitmap_length(0) - layout.bitmap_length(CLASSES - 1);
+            metadata = metadata + twice.bitmap_length(0) - layout.bitmap_length(LAST_CLASS);
         }
         Plan {
             layout: Layout { region: 0 },

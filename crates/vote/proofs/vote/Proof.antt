@@ -15,13 +15,9 @@ is-invalid-requires c κs = search needs
 returns : tie.Need-returns
 returns c =
     let a = c .before .before .before .before .args in
+    let refused = sym (c .before .is-invalid .ensures) ∙ c .if1 .taken in
     rw
-    (decide-invalid
-    (a .blocks .now)
-    (a .replicas)
-    (a .block-len)
-    (length (a .output .now))
-    (sym (c .before .is-invalid .ensures) ∙ c .if1 .taken))
+    (decide-invalid (a .blocks .now) (a .replicas) (a .block-len) (length (a .output .now)) refused)
     ((refl, refl), λ z. omega arith)
 
 -- the numbers are allowed

@@ -66,9 +66,6 @@ bitmap-length-requires c κs = tt
 add-metadata : tie.Need-add-metadata Inv-loop μ-loop
 add-metadata c = omega arith
 
-sub-bitmap-length : tie.Need-sub-bitmap-length Inv-loop μ-loop
-sub-bitmap-length c = omega arith
-
 bitmap-length-requires-2 : tie.Need-bitmap-length-requires-2 Inv-loop μ-loop
 bitmap-length-requires-2 c κs = tt
 
@@ -117,7 +114,6 @@ of-spec =
     power-requires-3
     bitmap-length-requires
     add-metadata
-    sub-bitmap-length
     bitmap-length-requires-2
     sub-metadata
     loop-less

@@ -36,17 +36,8 @@ equal-requires c κs = search needs
 returns-2 : tie.Need-returns-2
 returns-2 c =
     let x = c .before .before .before .before .args in
-    strided-last
-    (x .blocks .now)
-    (x .stride)
-    (x .n)
-    (x .a)
-    (x .b)
-    (c .before .before .matching .ensures)
-    (c .before .if1 .left)
-    (omega arith)
-    (omega arith)
-    (c .equal .ensures)
+    let last = strided-last (x .blocks .now) (x .stride) (x .n) (x .a) (x .b) (c .before .before .matching .ensures) in
+    last (c .before .if1 .left) (omega arith) (omega arith) (c .equal .ensures)
 
 pub strided-spec : {M : Type 1} → statement M
 strided-spec =
