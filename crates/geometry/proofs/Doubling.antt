@@ -15,9 +15,6 @@ next : (G : Layout) (c : ℕ) → bitmapAt G (suc c) ≡ bitmapAt G c + bitmapLe
 unfolding bitmapAt
 next G c = refl
 
-sums : {a d : ℕ} (b c e : ℕ) → a ≡ b + c → d ≡ b + e → a + e ≡ d + c
-sums b c e p q = omega arith
-
 module _ (r : ℕ) where
   twice : {c : ℕ} → suc c < classes → slotSize (ofRegion (2 * r)) (suc c) ≡ 2 * slotSize (ofRegion r) c
   twice {c} h =
@@ -39,7 +36,7 @@ pub doubled-power : (e : ℕ) {m last front : ℕ} → last ≡ bitmapLength (of
     → metadataLength (ofRegion (2 ^ (e + 1))) + last ≡ m + front
 doubled-power e p q g =
     let power : 2 ^ (e + 1) ≡ 2 * 2 ^ e = rw (add-one, pow-suc) (mul-comm (2 ^ e) 2) in
-    rw (p, q, g, power) (sums _ _ _ (start-shifted (2 ^ e) 11 (omega arith)) (next (ofRegion (2 ^ e)) 11))
+    rw (p, q, g, power) (omega (arith, start-shifted (2 ^ e) 11 (omega arith), next (ofRegion (2 ^ e)) 11))
 
 -- no heap has no bitmaps
 pub no-bitmaps : (c : ℕ) → bitmapAt (ofRegion 0) c ≡ header

@@ -7,7 +7,7 @@ use mathlib.Core.Bool.{Bool, true, false, and-false}
 use mathlib.Core.List.{List, [], _++_}
 use lib.ListN.{length, getD, take, drop, length-take, length-drop}
 use borrow.Author.Tests.{lt-ltb, le-ltb, ltb-false, eqb-true, not-false}
-use Rattle.answer.specs.declared.Refusal.the-variants.{InvalidVote, NoAgreement}
+use Rattle.answer.specs.declared.Refusal.the-variants.{NoAgreement}
 use Rattle.vote.specs.declared.elect.Elected.{Elected}
 use Rattle.vote.specs.Groups.{electedOf}
 use lib.Seq.{take-all}
@@ -41,12 +41,6 @@ allowed e =
       short = omega (arith, ltb-false);
       room = omega (arith, ltb-false);
     }
-
--- an invalid vote is refused
-pub decide-invalid : (blocks : List ℕ) (k size n : ℕ) → invalid (length blocks) k size n ≡ true
-    → decide blocks k size n ≡ lost InvalidVote
-unfolding decide
-decide-invalid blocks k size n e = rw (e, decide)
 
 -- a vote that is allowed, and the winner of its table
 pub record Found (blocks : List ℕ) (k size n : ℕ) (w : Elected) : Type 0 where

@@ -3,7 +3,8 @@
 use native.Mathlib.Omega.{arith}
 use mathlib.Core.Path.{refl, sym, _∙_}
 use lib.ListN.{length}
-use Rattle.vote.proofs.Decision.{Allowed, allowed, decide-invalid, Found}
+use Rattle.vote.specs.Decide.{decide}
+use Rattle.vote.proofs.Decision.{Allowed, allowed, Found}
 use Rattle.vote.proofs.Decision.{found-small, found-block, found-lost, found-won, found-named, found-put}
 use borrow.Author.Needs.{needs}
 use Rattle.vote.proofs.vote.Statement.{statement}
@@ -13,12 +14,8 @@ is-invalid-requires : tie.Need-is-invalid-requires
 is-invalid-requires c κs = search needs
 
 returns : tie.Need-returns
-returns c =
-    let a = c .before .before .before .before .args in
-    let refused = sym (c .before .is-invalid .ensures) ∙ c .if1 .taken in
-    rw
-    (decide-invalid (a .blocks .now) (a .replicas) (a .block-len) (length (a .output .now)) refused)
-    ((refl, refl), λ z. omega arith)
+unfolding decide
+returns c = rw (sym (c .before .is-invalid .ensures) ∙ c .if1 .taken, decide) ((refl, refl), λ z. omega arith)
 
 -- the numbers are allowed
 allowed-here : (c : tie.Else1)

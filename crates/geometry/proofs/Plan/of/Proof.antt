@@ -1,10 +1,9 @@
 -- `Plan::of` meets its contract. The loop's invariant: what is left of the search finds what the whole one finds, and
 -- the metadata's length is that of the regions reached.
-use Prim.Native.Nat.{ℕ, _+_, _-_, _*_, _^_, _≤_}
-use mathlib.Core.Path.{_≡_, refl, sym, ap, _∙_}
+use Prim.Native.Nat.{_+_, _-_, _*_, _^_, _≤_}
+use mathlib.Core.Path.{_≡_, refl}
 use native.Mathlib.Omega.{arith}
 use Rattle.search.specs.First.{first}
-use Rattle.geometry.specs.declared.Plan.{Plan}
 use Rattle.geometry.specs.Layout.{classes, header, metadataLength}
 use Rattle.geometry.proofs.Geometry.{isHeap, region-found, region-past, region-none}
 use Rattle.geometry.proofs.Doubling.{ofRegion, doubled-power, no-bitmaps}
@@ -40,19 +39,11 @@ wide-requires c κs = tt
 mul-if1 : tie.Need-mul-if1 Inv-loop μ-loop
 mul-if1 c = omega arith
 
--- a region length and the metadata's length make a plan
-plan : {r r′ m : ℕ} → r ≡ r′ → m ≡ metadataLength (ofRegion r′)
-    → let made : Plan = record { layout = ofRegion r′; metadata = metadataLength (ofRegion r′) } in
-    record { layout = ofRegion r; metadata = m } ≡ made
-plan p q = rw (p, q)
-
 returns : tie.Need-returns Inv-loop μ-loop
 returns c =
     let loop = c .before .before .before .before .loop in
     let found = region-found _ (loop .inv .1) (omega arith) (omega arith) in
-    plan
-    (c .before .before .power2 .ensures .0 ∙ found)
-    (loop .inv .2 ∙ ap (λ (r : ℕ). metadataLength (ofRegion r)) found)
+    rw (c .before .before .power2 .ensures .0, loop .inv .2, found)
 
 add-exponent : tie.Need-add-exponent Inv-loop μ-loop
 add-exponent c = omega arith
@@ -93,9 +84,7 @@ loop-again c =
     (omega arith, region-past _ rest (omega arith) (λ q. omega arith), omega arith, omega arith)
 
 returns-2 : tie.Need-returns-2 Inv-loop μ-loop
-returns-2 c =
-    let none = region-none _ (c .before .loop .inv .1) (omega arith) in
-    plan none (sym (no-bitmaps classes) ∙ ap (λ (r : ℕ). metadataLength (ofRegion r)) none)
+returns-2 c = rw (← region-none _ (c .before .loop .inv .1) (omega arith), no-bitmaps classes)
 
 pub of-spec : {M : Type 1} → statement M
 of-spec =
