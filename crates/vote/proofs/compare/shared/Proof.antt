@@ -27,16 +27,16 @@ loop-holds : tie.Need-loop-holds Inv-loop μ-loop
 loop-holds c = (sharing-none _ (omega arith) (omega arith), omega arith)
 
 add-c : tie.Need-add-c Inv-loop μ-loop
-add-c c = omega (arith, room (c .before) 3 (omega arith))
+add-c c = omega (arith, room (c .before) 3 (c .loop-test .taken))
 
 add-d : tie.Need-add-d Inv-loop μ-loop
-add-d c = omega (arith, room (c .before) 3 (omega arith))
+add-d c = omega (arith, room (c .before) 3 (c .loop-test .taken))
 
 matching-requires : tie.Need-matching-requires Inv-loop μ-loop
-matching-requires c κs = omega (arith, room (c .before) 3 (omega arith))
+matching-requires c κs = omega (arith, room (c .before) 3 (c .loop-test .taken))
 
 add-b : tie.Need-add-b Inv-loop μ-loop
-add-b c = omega (arith, room (c .before .before) 3 (omega arith))
+add-b c = omega (arith, room (c .before .before) 3 (c .before .loop-test .taken))
 
 loop-less : tie.Need-loop-less Inv-loop μ-loop
 loop-less c = omega arith
