@@ -13,7 +13,7 @@ use borrow.Author.Tests.{lt-ltb, le-ltb, eq-eqb, ne-eqb, eqb-true, ltb-true}
 use Rattle.search.specs.First.{first}
 use Rattle.search.proofs.First.{first-found, first-past, first-none, first-range, first-passes}
 use Rattle.geometry.specs.declared.Layout.{Layout}
-use Rattle.geometry.specs.Layout.{classes, regionOf, slotSize, classOf, header, bitmapAt, bitmapLength}
+use Rattle.geometry.specs.Layout.{classes, longestRegion, regionOf, slotSize, classOf, header, bitmapAt, bitmapLength}
 
 -- ---- region lengths
 
@@ -33,7 +33,7 @@ module _ (n : ℕ) {e : ℕ} (rest : first (isHeap n) 10 (21 - 10) ≡ first (is
 
 -- what a layout says of its heap
 pub record Laid (n region : ℕ) : Type 0 where
-  pub small : region ≤ 1048576
+  pub small : region ≤ longestRegion
   pub whole : (region ≡ 0 → ⊥) → n ≡ classes * region
 
 pub laid : (n : ℕ) → Laid n (regionOf n)

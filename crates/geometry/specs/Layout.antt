@@ -16,6 +16,9 @@ classes = 12
 
 -- ---- the heap
 
+abbrev pub longestRegion : ℕ
+longestRegion = 2 ^ 20
+
 -- the region length that makes a heap of n bytes, a power of two from 1,024 to 1,048,576; 0 where there is none
 abbrev pub regionOf : ℕ → ℕ
 regionOf n =

@@ -10,7 +10,7 @@ ghost use Rattle.geometry.specs.Layout.{header, bitmapLength, bitmapAt, 
 
 pub const CLASSES: usize = 12;
 
-const LAST_CLASS: usize = 11;
+const LAST_CLASS: usize = CLASSES - 1;
 
 // The length of the metadata's fields before the bitmaps.
 const HEADER: usize = 8;

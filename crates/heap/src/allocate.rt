@@ -10,7 +10,7 @@ use numbers::wide;
 ghost use mathlib.Core.Path.{_≡_};
 ghost use Prim.Native.Nat.{_≤_, _<_};
 ghost use lib.ListN.{length};
-ghost use Rattle.geometry.specs.Layout.{classes, heapLength, slots, slotStart};
+ghost use Rattle.geometry.specs.Layout.{classes, longestRegion, heapLength, slots, slotStart};
 ghost use Rattle.answer.specs.Reply.{replyOf};
 ghost use Rattle.rules.specs.Judge.{Fits};
 ghost use Rattle.rules.specs.Outcome.{reply, metadataAfter};
@@ -19,7 +19,7 @@ ghost use Rattle.heap.specs.Relied.{Roomy};
 
 // The value of a slot: where it starts in the heap.
 fn slot_start(layout: Layout, class: usize, slot: usize) -> u32
-    requires { ⌜ (layout .region ≤ 1048576) × (class < classes) × (slot ≤ slots layout class) ⌝ }
+    requires { ⌜ (layout .region ≤ longestRegion) × (class < classes) × (slot ≤ slots layout class) ⌝ }
     ensures { λ r. ⌜ r ≡ slotStart layout class slot ⌝ }
 {
     (class * wide(layout.region) + slot * layout.slot_size(class)) as u32

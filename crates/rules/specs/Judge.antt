@@ -5,7 +5,7 @@ use mathlib.Core.Bool.{not}
 use mathlib.Core.List.{[], _∷_}
 use lib.Dec.{eqb}
 use Rattle.geometry.specs.declared.Layout.{Layout}
-use Rattle.geometry.specs.Layout.{layoutOf, heapLength, metadataLength}
+use Rattle.geometry.specs.Layout.{longestRegion, layoutOf, heapLength, metadataLength}
 use Rattle.answer.specs.declared.Refusal.{Refusal}
 use Rattle.answer.specs.declared.Refusal.the-variants.{HeapLength, MetadataLength}
 use Rattle.answer.specs.Checks.{_when_, checked}
@@ -29,6 +29,6 @@ onceLaid refused f (Unfit r) = refused r
 
 -- what may be relied on once lengths were judged right
 pub record Fits (G : Layout) (heapBytes metadataBytes : ℕ) : Type 0 where
-  pub small : G .region ≤ 1048576
+  pub small : G .region ≤ longestRegion
   pub heap : heapBytes ≡ heapLength G
   pub metadata : metadataBytes ≡ metadataLength G
