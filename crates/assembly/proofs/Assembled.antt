@@ -6,28 +6,52 @@ use mathlib.Core.Bool.{true}
 use mathlib.Core.List.{List, [], _++_, append-assoc, append-nil}
 use lib.ListN.{length, take, drop, length-append, length-drop}
 use Rattle.bytes.specs.Bytes.{slice, indexOf}
-use Rattle.writing.specs.Overwrite.{overwrite}
+use Rattle.writing.proofs.Writing.{overwrite-length}
 use Rattle.request.specs.Parse.{requestSize}
 use Rattle.line.specs.Line.{readLine, requestOf}
-use Rattle.assembly.specs.Message.{messageOf, messageRoom}
-use Rattle.assembly.specs.Batch.{newline, lines, rest, used, requestsOf, messagesOf, requestsIn, messagesIn, doneOf, fits}
-use Rattle.assembly.specs.declared.Done.{Done}
 use Rattle.line.specs.declared.Line.{Line}
-use Rattle.writing.proofs.Writing.{Wrote, wrote-then, wrote-length}
+use Rattle.assembly.specs.Put.{Put}
+use Rattle.assembly.specs.Message.{messageOf, messageRoom}
+use Rattle.assembly.specs.Batch.{newline, lines, rest, used, requestsOf, messagesOf, requestsIn, messagesIn}
+use Rattle.assembly.specs.Batch.{doneOf, fits}
+use Rattle.assembly.specs.declared.Done.{Done}
 use Rattle.assembly.proofs.Room.{room-known}
+use Rattle.assembly.proofs.Putting.{two-put, nothing-put}
 use Rattle.assembly.proofs.Splitting.{line-found, rest-found, no-line, no-more}
+
+-- of all that is to be written at the front of a buffer, the part before place n is
+pub record Filled (out₀ out : List ℕ) (n : ℕ) (all left : List ℕ) : Type 0 where
+  pub part : List ℕ
+  pub put : Put out₀ 0 part n out
+  pub room : length part ≤ length out₀
+  pub split : all ≡ part ++ left
+
+module _ {out₀ out : List ℕ} {n : ℕ} {all left : List ℕ} (f : Filled out₀ out n all left) where
+  pub filled-length : length out ≡ length out₀
+  filled-length = rw (f .put .bytes) (overwrite-length out₀ 0 (f .part) (omega (arith, f .room)))
+
+  pub filled-more : {text more out₁ : List ℕ} {r : ℕ} → left ≡ text ++ more → Put out n text r out₁ → r ≤ length out
+      → Filled out₀ out₁ r all more
+  filled-more {text} e p small =
+      let size = filled-length in
+      let here = f .put .place in
+      let end = p .place in
+      record {
+        part = f .part ++ text;
+        put = two-put (f .put) p (omega arith);
+        room = rw length-append (omega arith);
+        split = f .split ∙ rw e (sym (append-assoc (f .part) _ _));
+      }
+
+  pub filled-all : left ≡ [] → Put out₀ 0 all n out
+  filled-all e = rw (f .split, e, append-nil) (f .put)
 
 -- the lines before `at` are read, and their requests and messages written; the next line has the number `next` and ends
 -- at `end`
-pub record Assembled (input : List ℕ) (number : ℕ) (out₀ errors₀ out errors : List ℕ) (at next filled said end : ℕ) : Type 0 where
-  pub requests : List ℕ
-  pub messages : List ℕ
-  pub requests-wrote : Wrote out₀ out 0 requests
-  pub messages-wrote : Wrote errors₀ errors 0 messages
-  pub requests-size : filled ≡ length requests
-  pub messages-size : said ≡ length messages
-  pub requests-rest : requestsOf (lines input) ≡ requests ++ requestsOf (lines (drop at input))
-  pub messages-rest : messagesOf number (lines input) ≡ messages ++ messagesOf next (lines (drop at input))
+pub record Assembled (input : List ℕ) (number : ℕ) (out₀ errors₀ out errors : List ℕ)
+    (at next filled said end : ℕ) : Type 0 where
+  pub requests : Filled out₀ out filled (requestsIn input) (requestsIn (drop at input))
+  pub messages : Filled errors₀ errors said (messagesIn number input) (messagesIn next (drop at input))
   pub lines-rest : number + length (lines input) ≡ next + length (lines (drop at input))
   pub text-rest : rest input ≡ rest (drop at input)
   pub found : end ≡ at + indexOf newline (slice at (length input) input)
@@ -35,8 +59,6 @@ pub record Assembled (input : List ℕ) (number : ℕ) (out₀ errors₀ out err
   pub requests-room : filled + (length input - at) * requestSize ≤ length out
   pub messages-room : said + (length input - at) * messageRoom ≤ length errors
   pub numbers : next + (length input - at) < 2 ^ 64
-  pub out-kept : length out ≡ length out₀
-  pub errors-kept : length errors ≡ length errors₀
 
 module _ {input : List ℕ} {number : ℕ} {out₀ errors₀ : List ℕ} where
   -- nothing is read yet
@@ -46,14 +68,8 @@ module _ {input : List ℕ} {number : ℕ} {out₀ errors₀ : List ℕ} where
   assembled-none room f w =
       let (r, m, n) = room-known (length input) number (length out₀) (length errors₀) room in
       record {
-        requests = [];
-        messages = [];
-        requests-wrote = record { bytes = refl; room = omega arith };
-        messages-wrote = record { bytes = refl; room = omega arith };
-        requests-size = refl;
-        messages-size = refl;
-        requests-rest = refl;
-        messages-rest = refl;
+        requests = record { part = []; put = nothing-put; room = omega arith; split = refl };
+        messages = record { part = []; put = nothing-put; room = omega arith; split = refl };
         lines-rest = refl;
         text-rest = refl;
         found = f;
@@ -61,40 +77,32 @@ module _ {input : List ℕ} {number : ℕ} {out₀ errors₀ : List ℕ} where
         requests-room = omega arith;
         messages-room = omega arith;
         numbers = omega arith;
-        out-kept = refl;
-        errors-kept = refl;
       }
 
-  module _ {out errors : List ℕ} {at next filled said end : ℕ} (p : Assembled input number out₀ errors₀ out errors at next filled said end) where
+  module _ {out errors : List ℕ} {at next filled said end : ℕ}
+      (p : Assembled input number out₀ errors₀ out errors at next filled said end) where
     start : at ≤ end
     start = let f = p .found in omega arith
 
     -- one line more is read
     pub assembled-more : end < length input → {text : List ℕ} {line : Line} {r m last : ℕ} {out₁ errors₁ : List ℕ}
         → text ≡ take (end - at) (drop at input) → line ≡ readLine text
-        → r ≡ filled + length (requestOf line) → r ≤ filled + requestSize → out₁ ≡ overwrite out filled (requestOf line)
-        → m ≡ said + length (messageOf next text line) → m ≤ said + messageRoom → errors₁ ≡ overwrite errors said (messageOf next text line)
+        → r ≤ filled + requestSize → Put out filled (requestOf line) r out₁
+        → m ≤ said + messageRoom → Put errors said (messageOf next text line) m errors₁
         → last ≡ end + 1 + indexOf newline (slice (end + 1) (length input) input) → last ≤ length input
         → Assembled input number out₀ errors₀ out₁ errors₁ (end + 1) (next + 1) r m last
     unfolding requestsOf messagesOf
-    assembled-more some {text} {line} t e size small bytes size' small' bytes' f w =
+    assembled-more some t e small put small' put' f w =
         let split = line-found input at end (p .found) start some in
         let from : at ≤ end = start in
-        let one : Wrote out _ filled (requestOf line) = record { bytes = bytes; room = omega arith } in
-        let other : Wrote errors _ said (messageOf next text line) = record { bytes = bytes'; room = omega arith } in
-        let all = wrote-then (p .requests-wrote) one (omega (arith, p .requests-size)) in
-        let all' = wrote-then (p .messages-wrote) other (omega (arith, p .messages-size)) in
-        let kept = wrote-length all in
-        let kept' = wrote-length all' in
+        let after = drop (end + 1) input in
+        let requests = filled-more (p .requests) {more = requestsIn after} (rw (split, e, t)) put (omega arith) in
+        let messages = filled-more (p .messages) {more = messagesIn (next + 1) after} (rw (split, e, t)) put' (omega arith) in
+        let kept = filled-length (p .requests) ∙ sym (filled-length requests) in
+        let kept' = filled-length (p .messages) ∙ sym (filled-length messages) in
         record {
-          requests = p .requests ++ requestOf line;
-          messages = p .messages ++ messageOf next text line;
-          requests-wrote = all;
-          messages-wrote = all';
-          requests-size = rw (length-append, size, p .requests-size);
-          messages-size = rw (length-append, size', p .messages-size);
-          requests-rest = p .requests-rest ∙ rw (split, e, t) (sym (append-assoc (p .requests) _ _));
-          messages-rest = p .messages-rest ∙ rw (split, e, t) (sym (append-assoc (p .messages) _ _));
+          requests = requests;
+          messages = messages;
           lines-rest = p .lines-rest ∙ rw split (omega arith);
           text-rest = p .text-rest ∙ rest-found input at end (p .found) start some;
           found = f;
@@ -102,26 +110,31 @@ module _ {input : List ℕ} {number : ℕ} {out₀ errors₀ : List ℕ} where
           requests-room = omega arith;
           messages-room = omega arith;
           numbers = omega arith;
-          out-kept = kept;
-          errors-kept = kept';
         }
 
     -- all lines are read
     module _ (none : length input ≤ end) where
-      pub all-requests : requestsIn input ≡ p .requests
+      last : lines (drop at input) ≡ []
+      last = no-line input at end (p .found) none
+
+      pub all-requests : Put out₀ 0 (requestsIn input) filled out
       unfolding requestsOf
-      all-requests = p .requests-rest ∙ rw (no-line input at end (p .found) none) (append-nil (p .requests))
+      all-requests = filled-all (p .requests) (rw last)
 
-      pub all-messages : messagesIn number input ≡ p .messages
+      pub all-messages : Put errors₀ 0 (messagesIn number input) said errors
       unfolding messagesOf
-      all-messages = p .messages-rest ∙ rw (no-line input at end (p .found) none) (append-nil (p .messages))
+      all-messages = filled-all (p .messages) (rw last)
 
-      pub all-done : _≡_ {A = Done} (record { used = at; next = next; requests = filled; messages = said }) (doneOf number input)
+      pub all-done : _≡_ {A = Done} (record { used = at; next = next; requests = filled; messages = said })
+          (doneOf number input)
       unfolding doneOf
       all-done =
-          let left : length (rest input) ≡ length input - at = rw (p .text-rest, no-more input at end (p .found) none) (length-drop at input) in
+          let left : length (rest input) ≡ length input - at =
+          rw (p .text-rest, no-more input at end (p .found) none) (length-drop at input) in
           let from : at ≤ end = start in
           let w = p .within in
           let read : at ≡ used input = omega arith in
-          let after : next ≡ number + length (lines input) = sym (p .lines-rest ∙ rw (no-line input at end (p .found) none) (omega arith)) in
-          rw (all-requests, all-messages, ← p .requests-size, ← p .messages-size, ← after, ← read)
+          let after : next ≡ number + length (lines input) = sym (p .lines-rest ∙ rw last (omega arith)) in
+          let written : length (requestsIn input) ≡ filled = omega (arith, all-requests .place) in
+          let told : length (messagesIn number input) ≡ said = omega (arith, all-messages .place) in
+          rw (written, told, ← after, ← read)

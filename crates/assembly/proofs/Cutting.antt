@@ -9,7 +9,7 @@ use lib.ListN.{length, take, drop, length-append, length-take, take-append-drop}
 use lib.Seq.{take-all}
 use lib.Dec.{eqb}
 use Rattle.line.specs.Line.{longestLine, readLine, requestOf}
-use Rattle.assembly.specs.Message.{messageOf}
+use Rattle.assembly.specs.Message.{foundIn, messageOf}
 use Rattle.assembly.specs.Batch.{newline, linesFrom, restFrom, lines, rest, requestsOf, messagesOf}
 use Rattle.assembly.specs.Pieces.{longestStart, whole, linesIn}
 use Rattle.line.specs.declared.Line.{Line}
@@ -193,7 +193,7 @@ module _ (pieces : List (List ℕ)) where
       requests-told (linesIn [] pieces) ∙ ap whole (told-however-cut (λ line read. requestOf read) (λ a b. refl) pieces) ∙ sym (requests-told (lines (whole pieces)))
 
   pub messages-however-cut : (number : ℕ) → messagesOf number (linesIn [] pieces) ≡ messagesOf number (lines (whole pieces))
-  unfolding messageOf
+  unfolding foundIn
   messages-however-cut number =
       messages-told (linesIn [] pieces) number
       ∙ ap (numbered number) (told-however-cut (λ line read k. messageOf k line read) (λ a b. refl) pieces)

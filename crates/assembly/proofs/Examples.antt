@@ -9,7 +9,7 @@ use Rattle.line.specs.Text.{bytes, isBlank, nextWord, trimmedEnd}
 use Rattle.line.specs.Number.{more, withDigits, number}
 use Rattle.line.specs.Line.{names, operationOf, request, counted, operands, statement, readText}
 use Rattle.assembly.specs.Batch.{linesFrom, restFrom, lines, rest, messagesOf}
-use Rattle.assembly.specs.Message.{shownByte, shown, found, said, messageOf, expectedRoom, foundRoom}
+use Rattle.assembly.specs.Message.{shownByte, shown, found, said, expectedOf, foundIn, expectedRoom, foundRoom}
 use Rattle.decimal.specs.Decimal.{decimalIn}
 
 two-lines : lines (bytes "place 5\n\nfree") ≡ bytes "place 5" ∷ [] ∷ []
@@ -23,11 +23,11 @@ unfinished-line = refl
 -- a message for each kind of bad line
 bad-lines-named : messagesOf 9 (map bytes ("place 5" ∷ "placed 5" ∷ "text # 5" ∷ "free\t4294967296\r" ∷ "copy 1 two" ∷ []))
     ≡ bytes "line 10: expected place, free, measure, copy, text or counted, found \"placed\"\nline 11: expected a number from 0 to 4294967295, found the end of the line\nline 12: expected a number from 0 to 4294967295, found \"4294967296\"\nline 13: expected nothing after the numbers, found \"two\"\n"
-unfolding bytes first alike indexOf indexAfter isBlank nextWord trimmedEnd more withDigits number names operationOf request counted operands statement readText messagesOf messageOf found shown shownByte said decimalIn
+unfolding bytes first alike indexOf indexAfter isBlank nextWord trimmedEnd more withDigits number names operationOf request counted operands statement readText messagesOf expectedOf foundIn found shown shownByte said decimalIn
 bad-lines-named = refl
 
 long-line-named : messagesOf 1 (replicate 256 32 ∷ []) ≡ bytes "line 1: expected at most 255 bytes, found more\n"
-unfolding bytes trimmedEnd readText messagesOf messageOf said decimalIn
+unfolding bytes trimmedEnd readText messagesOf expectedOf foundIn said decimalIn
 long-line-named = refl
 
 -- 24 bytes of a word are shown; a longer one has dots, and a byte that is not printable is a question mark

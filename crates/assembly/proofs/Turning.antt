@@ -4,10 +4,9 @@ use mathlib.Core.Path.{_≡_, refl, sym, ap, _∙_}
 use mathlib.Core.Bool.{Bool, true, false}
 use mathlib.Core.List.{List, [], _∷_, _++_, append-assoc, append-nil}
 use native.Mathlib.Nat.{sub-zero}
-use native.Mathlib.Decide.{decLe}
 use native.Mathlib.Omega.{arith}
-use lib.ListN.{length, take, drop, length-append, length-take}
-use lib.Seq.{drop-at, length-take-le, take-add, take-take, take-all}
+use lib.ListN.{length, take, drop, length-append}
+use lib.Seq.{drop-at, length-take-le, take-add}
 use lib.Dec.{eqb}
 use Rattle.writing.specs.Overwrite.{overwrite}
 use Rattle.assembly.specs.Batch.{newline, linesFrom, restFrom, rest, used, requestsOf, messagesOf, requestsIn, messagesIn, doneOf, fits, admitted}
@@ -15,6 +14,7 @@ use Rattle.assembly.specs.Pieces.{longestStart}
 use Rattle.assembly.specs.Turn.{textIn, outcome}
 use Rattle.assembly.specs.declared.Done.{Done}
 use Rattle.assembly.proofs.Gathering.{Gathers}
+use Rattle.assembly.proofs.Putting.{take-min}
 use Rattle.assembly.proofs.Splitting.{rest-end, rest-byte}
 
 -- what is left of a text is its end
@@ -40,18 +40,6 @@ rest-left text =
     let size : length text ≡ length (p .front) + length (rest text) = ap length (p .split) ∙ length-append (p .front) (rest text) in
     let front : length (p .front) ≡ used text = omega arith in
     ap (drop (used text)) (p .split) ∙ drop-at (p .front) (rest text) (used text) front
-
-take-min : (a b : ℕ) (xs : List ℕ) {n : ℕ} → n ≡ min a b → take n xs ≡ take a (take b xs)
-take-min a b xs {n} e = go (decLe a b)
-  where
-    go : Dec (a ≤ b) → take n xs ≡ take a (take b xs)
-    go (yes h) =
-        let m : n ≡ a = omega arith in
-        rw (m, take-take a b xs h)
-    go (no h) =
-        let m : n ≡ b = omega arith in
-        let size : length (take b xs) ≤ a = rw length-take (omega arith) in
-        rw (m, take-all a (take b xs) size)
 
 module _ (input : List ℕ) (kept got number : ℕ) (out errors : List ℕ) {end : ℕ} {buffer : List ℕ} (g : Gathers input kept got end buffer)
     {room : Bool} (told : room ≡ fits end number (length out) (length errors)) where

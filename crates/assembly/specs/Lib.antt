@@ -1,3 +1,4 @@
+pub mod Put
 pub mod Message
 pub mod Batch
 pub mod Pieces

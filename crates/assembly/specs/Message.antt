@@ -32,19 +32,27 @@ found word = cond (eqb (length word) 0) (bytes "the end of the line\n") (shown w
 unfoldable pub said : ℕ → List ℕ → List ℕ
 said number text = bytes "line " ++ (decimal number ++ text)
 
--- what was expected in the line with a number, up to `found`, and the word that stands there
-abbrev pub saidFound : ℕ → List ℕ → List ℕ → Word → List ℕ
-saidFound number expected line w = said number (expected ++ found (wordAt line w))
+-- what the line with a number should have been, up to `found`; nothing where it is no bad line
+unfoldable pub expectedOf : ℕ → Line → List ℕ
+expectedOf number (Request operation argument count) = []
+expectedOf number Nothing = []
+expectedOf number (BadOperation w) = said number (bytes ": expected place, free, measure, copy, text or counted, found ")
+expectedOf number (BadNumber w) = said number (bytes ": expected a number from 0 to 4294967295, found ")
+expectedOf number (TrailingText w) = said number (bytes ": expected nothing after the numbers, found ")
+expectedOf number TooLong = said number (bytes ": expected at most 255 bytes, found more\n")
 
--- what the line with a number should have been, and what it is; nothing where it is no bad line
-unfoldable pub messageOf : ℕ → List ℕ → Line → List ℕ
-messageOf number line (Request operation argument count) = []
-messageOf number line Nothing = []
-messageOf number line (BadOperation w) =
-    saidFound number (bytes ": expected place, free, measure, copy, text or counted, found ") line w
-messageOf number line (BadNumber w) = saidFound number (bytes ": expected a number from 0 to 4294967295, found ") line w
-messageOf number line (TrailingText w) = saidFound number (bytes ": expected nothing after the numbers, found ") line w
-messageOf number line TooLong = said number (bytes ": expected at most 255 bytes, found more\n")
+-- the word of a line that stands where another was expected, if any
+unfoldable pub foundIn : List ℕ → Line → List ℕ
+foundIn line (Request operation argument count) = []
+foundIn line Nothing = []
+foundIn line (BadOperation w) = found (wordAt line w)
+foundIn line (BadNumber w) = found (wordAt line w)
+foundIn line (TrailingText w) = found (wordAt line w)
+foundIn line TooLong = []
+
+-- what is said of the line with a number
+abbrev pub messageOf : ℕ → List ℕ → Line → List ℕ
+messageOf number line read = expectedOf number read ++ foundIn line read
 
 -- the lengths of the longest text up to `found`, of what is found, and of a message: room for any
 abbrev pub expectedRoom : ℕ

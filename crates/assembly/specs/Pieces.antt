@@ -1,7 +1,8 @@
 -- An input that is read in pieces.
-use Prim.Native.Nat.{ℕ}
+use Prim.Native.Nat.{ℕ, _+_}
 use mathlib.Core.List.{List, [], _∷_, _++_}
 use lib.ListN.{take}
+use Rattle.line.specs.Line.{longestLine}
 use Rattle.assembly.specs.Batch.{lines, rest}
 
 -- the pieces as one
@@ -11,7 +12,7 @@ whole (piece ∷ more) = piece ++ whole more
 
 -- one byte more than a line may have, and a carriage return
 abbrev pub longestStart : ℕ
-longestStart = 257
+longestStart = longestLine + 2
 
 -- the start of an unfinished line, as far as it tells that the line is too long
 abbrev pub startOf : List ℕ → List ℕ

@@ -10,11 +10,11 @@ ghost use Rattle.assembly.specs.Batch.{requestsIn, messagesIn, doneOf, f
 ghost use Rattle.assembly.specs.Pieces.{longestStart};
 ghost use Rattle.assembly.specs.Turn.{gathered, textEnd, outcome};
 
-// Room for any message.
-pub const MESSAGE: usize = 117;
+// Room for any message: `line `, its number, what was expected and what is found.
+pub const MESSAGE: usize = 5 + decimal::WIDTH + output::EXPECTED + output::FOUND;
 
 // One byte more than a line may have, and a carriage return.
-const START: usize = 257;
+const START: usize = line::LONGEST + 2;
 
 const NEWLINE: u8 = b'\n';
 
@@ -34,6 +34,12 @@ pub struct Turn {
     pub next: u64,
     pub requests: usize,
     pub messages: usize,
+}
+
+fn least(a: usize, b: usize) -> usize
+    ensures { λ r. ⌜ r ≡ min a b ⌝ }
+{
+    if a < b { a } else { b }
 }
 
 fn fits(len: usize, number: u64, out: usize, errors: usize) -> bool
@@ -66,9 +72,10 @@ fn assemble_lines(input: &[u8], number: u64, out: &mut [u8], errors: &mut [u8]) 
     let mut messages: usize = 0;
     let mut end = bytes::scan::find(input, 0, input.len(), NEWLINE);
     while end < input.len() {
-        let line = line::read(&input[used..end]);
+        let text = &input[used..end];
+        let line = line::read(text);
         requests = output::put_request(line, out, requests);
-        messages = output::put_message(&input[used..end], line, next, errors, messages);
+        messages = output::put_message(text, line, next, errors, messages);
         next += 1;
         used = end + 1;
         end = bytes::scan::find(input, used, input.len(), NEWLINE);
@@ -101,13 +108,6 @@ fn gather(input: &mut [u8], kept: usize, got: usize) -> usize
     kept + got
 }
 
-// How many bytes are kept of so many.
-fn start_len(left: usize) -> usize
-    ensures { λ r. ⌜ r ≡ min longestStart left ⌝ }
-{
-    if left < START { left } else { START }
-}
-
 // Reads the lines of an input at the front of which `kept` bytes were kept by the turn before and behind them `got`
 // bytes read, 0 at its end, and writes their requests and messages. Where these may not fit, or the lines' numbers 64
 // bits, nothing is read, written or kept.
@@ -132,7 +132,7 @@ pub fn assemble(
     let end = gather(input, kept, got);
     if fits(end, number, out.len(), errors.len()) {
         let done = assemble_lines(&input[0..end], number, out, errors);
-        let count = start_len(end - done.used);
+        let count = least(START, end - done.used);
         let left = writing::shift(input, done.used, count);
         return Turn {
             kept: left,

@@ -1,23 +1,28 @@
 // Requests and messages, written one after another.
+use super::least;
 use line::Line;
-use line::Word;
-ghost use mathlib.Core.Path.{_≡_};
-ghost use mathlib.Core.List.{map};
 ghost use Prim.Native.Nat.{_+_, _≤_};
-ghost use lib.ListN.{length};
-ghost use Rattle.writing.specs.Overwrite.{overwrite};
+ghost use mathlib.Core.List.{map};
+ghost use mathlib.Core.Path.{_≡_};
+ghost use lib.ListN.{length, take};
 ghost use Rattle.request.specs.Parse.{requestSize};
 ghost use Rattle.line.specs.Line.{requestOf};
-ghost use Rattle.assembly.specs.Message.{shownByte, shown, found, said, saidFound, messageOf, expectedRoom, foundRoom, messageRoom};
+ghost use Rattle.assembly.specs.Put.{Put};
+ghost use Rattle.assembly.specs.Message.{shownMost, shownByte, shown, found, said, expectedOf, messageOf};
+ghost use Rattle.assembly.specs.Message.{expectedRoom, foundRoom, messageRoom};
 
 // How many bytes of a word are shown.
 const SHOWN: usize = 24;
 
+// The longest text of what was expected, and of what is found: a word between quotes, and dots after them.
+pub(crate) const EXPECTED: usize = 62;
+
+pub(crate) const FOUND: usize = 1 + SHOWN + 5;
+
 // Writes a text at a place, and answers the place after it.
 fn put(text: &[u8], out: &mut [u8], at: usize) -> usize
     requires { ⌜ at + length (now text) ≤ length (now out) ⌝ }
-    ensures { λ r. ⌜ r ≡ at + length (now (text .entry)) ⌝ }
-    ensures { λ _. ⌜ now (out .exit) ≡ overwrite (now (out .entry)) at (now (text .entry)) ⌝ }
+    ensures { λ r. ⌜ Put (now (out .entry)) at (now (text .entry)) r (now (out .exit)) ⌝ }
 {
     let end = at + text.len();
     bytes::copy(text, &mut out[at..end]);
@@ -36,14 +41,16 @@ fn shown_byte(byte: u8) -> u8
     byte
 }
 
-fn put_shown(text: &[u8], out: &mut [u8], at: usize) -> usize
-    requires { ⌜ at + length (now text) ≤ length (now out) ⌝ }
-    ensures { λ r. ⌜ r ≡ at + length (now (text .entry)) ⌝ }
-    ensures { λ _. ⌜ now (out .exit) ≡ overwrite (now (out .entry)) at (map shownByte (now (text .entry))) ⌝ }
+// Writes the start of a word.
+fn put_shown(word: &[u8], out: &mut [u8], at: usize) -> usize
+    requires { ⌜ at + shownMost ≤ length (now out) ⌝ }
+    ensures { λ r. ⌜ r ≤ at + shownMost ⌝ }
+    ensures { λ r. ⌜ Put (now (out .entry)) at (map shownByte (take shownMost (now (word .entry)))) r (now (out .exit)) ⌝ }
 {
+    let count = least(SHOWN, word.len());
     let mut i: usize = 0;
-    while i < text.len() {
-        out[at + i] = shown_byte(text[i]);
+    while i < count {
+        out[at + i] = shown_byte(word[i]);
         i += 1;
     }
     at + i
@@ -52,22 +59,21 @@ fn put_shown(text: &[u8], out: &mut [u8], at: usize) -> usize
 // Writes the start of a word between quotes.
 fn put_word(word: &[u8], out: &mut [u8], at: usize) -> usize
     requires { ⌜ at + foundRoom ≤ length (now out) ⌝ }
-    ensures { λ r. ⌜ (r ≡ at + length (shown (now (word .entry)))) × (r ≤ at + foundRoom) ⌝ }
-    ensures { λ _. ⌜ now (out .exit) ≡ overwrite (now (out .entry)) at (shown (now (word .entry))) ⌝ }
+    ensures { λ r. ⌜ r ≤ at + foundRoom ⌝ }
+    ensures { λ r. ⌜ Put (now (out .entry)) at (shown (now (word .entry))) r (now (out .exit)) ⌝ }
 {
     let first = put(b"\"", out, at);
+    let second = put_shown(word, out, first);
     if word.len() <= SHOWN {
-        let second = put_shown(word, out, first);
         return put(b"\"\n", out, second);
     }
-    let second = put_shown(&word[0..SHOWN], out, first);
     put(b"\"...\n", out, second)
 }
 
 fn put_found(word: &[u8], out: &mut [u8], at: usize) -> usize
     requires { ⌜ at + foundRoom ≤ length (now out) ⌝ }
-    ensures { λ r. ⌜ (r ≡ at + length (found (now (word .entry)))) × (r ≤ at + foundRoom) ⌝ }
-    ensures { λ _. ⌜ now (out .exit) ≡ overwrite (now (out .entry)) at (found (now (word .entry))) ⌝ }
+    ensures { λ r. ⌜ r ≤ at + foundRoom ⌝ }
+    ensures { λ r. ⌜ Put (now (out .entry)) at (found (now (word .entry))) r (now (out .exit)) ⌝ }
 {
     if word.len() == 0 {
         return put(b"the end of the line\n", out, at);
@@ -79,85 +85,36 @@ fn put_found(word: &[u8], out: &mut [u8], at: usize) -> usize
 fn say(number: u64, text: &[u8], out: &mut [u8], at: usize) -> usize
     requires { ⌜ length (now text) ≤ expectedRoom ⌝ }
     requires { ⌜ at + messageRoom ≤ length (now out) ⌝ }
-    ensures { λ r. ⌜ (r ≡ at + length (said number (now (text .entry)))) × (r + foundRoom ≤ at + messageRoom) ⌝ }
-    ensures { λ _. ⌜ now (out .exit) ≡ overwrite (now (out .entry)) at (said number (now (text .entry))) ⌝ }
+    ensures { λ r. ⌜ r + foundRoom ≤ at + messageRoom ⌝ }
+    ensures { λ r. ⌜ Put (now (out .entry)) at (said number (now (text .entry))) r (now (out .exit)) ⌝ }
 {
     let first = put(b"line ", out, at);
     let second = decimal::put(out, first, number);
     put(text, out, second)
 }
 
-// Says what was expected, and which word of the line stands there.
-fn say_found(
-    number: u64,
-    expected: &[u8],
-    line: &[u8],
-    word: Word,
-    out: &mut [u8],
-    at: usize,
-) -> usize
-    requires { ⌜ length (now expected) ≤ expectedRoom ⌝ }
+// Says what a bad line should have been, and of any other line nothing.
+fn say_expected(number: u64, read: Line, out: &mut [u8], at: usize) -> usize
     requires { ⌜ at + messageRoom ≤ length (now out) ⌝ }
-    ensures { λ r. ⌜ r ≡ at + length (saidFound number (now (expected .entry)) (now (line .entry)) word) ⌝ }
-    ensures { λ r. ⌜ r ≤ at + messageRoom ⌝ }
-    ensures { λ _. ⌜ now (out .exit)
-        ≡ overwrite (now (out .entry)) at (saidFound number (now (expected .entry)) (now (line .entry)) word) ⌝ }
-{
-    let end = say(number, expected, out, at);
-    put_found(line::word_bytes(line, word), out, end)
-}
-
-// Writes the request that a line asks for, if any.
-pub(crate) fn put_request(line: Line, out: &mut [u8], at: usize) -> usize
-    requires { ⌜ at + requestSize ≤ length (now out) ⌝ }
-    ensures { λ r. ⌜ (r ≡ at + length (requestOf line)) × (r ≤ at + requestSize) ⌝ }
-    ensures { λ _. ⌜ now (out .exit) ≡ overwrite (now (out .entry)) at (requestOf line) ⌝ }
-{
-    match line {
-        Line::Request {
-            operation,
-            argument,
-            count,
-        } => {
-            let bytes = request::encode(operation, argument, count);
-            put(&bytes, out, at)
-        }
-        Line::Nothing => at,
-        Line::BadOperation(_) => at,
-        Line::BadNumber(_) => at,
-        Line::TrailingText(_) => at,
-        Line::TooLong => at,
-    }
-}
-
-// Writes what a bad line should have been and what it is, and of any other line nothing.
-pub(crate) fn put_message(line: &[u8], read: Line, number: u64, out: &mut [u8], at: usize) -> usize
-    requires { ⌜ at + messageRoom ≤ length (now out) ⌝ }
-    ensures { λ r. ⌜ (r ≡ at + length (messageOf number (now (line .entry)) read)) × (r ≤ at + messageRoom) ⌝ }
-    ensures { λ _. ⌜ now (out .exit) ≡ overwrite (now (out .entry)) at (messageOf number (now (line .entry)) read) ⌝ }
+    ensures { λ r. ⌜ r + foundRoom ≤ at + messageRoom ⌝ }
+    ensures { λ r. ⌜ Put (now (out .entry)) at (expectedOf number read) r (now (out .exit)) ⌝ }
 {
     match read {
-        Line::BadOperation(word) => say_found(
+        Line::BadOperation(_) => say(
             number,
             b": expected place, free, measure, copy, text or counted, found ",
-            line,
-            word,
             out,
             at,
         ),
-        Line::BadNumber(word) => say_found(
+        Line::BadNumber(_) => say(
             number,
             b": expected a number from 0 to 4294967295, found ",
-            line,
-            word,
             out,
             at,
         ),
-        Line::TrailingText(word) => say_found(
+        Line::TrailingText(_) => say(
             number,
             b": expected nothing after the numbers, found ",
-            line,
-            word,
             out,
             at,
         ),
@@ -167,7 +124,39 @@ pub(crate) fn put_message(line: &[u8], read: Line, number: u64, out: &mut [u8], 
             out,
             at,
         ),
-        Line::Nothing => at,
-        Line::Request { .. } => at,
+        _ => at,
+    }
+}
+
+// Writes the request that a line asks for, if any.
+pub(crate) fn put_request(line: Line, out: &mut [u8], at: usize) -> usize
+    requires { ⌜ at + requestSize ≤ length (now out) ⌝ }
+    ensures { λ r. ⌜ r ≤ at + requestSize ⌝ }
+    ensures { λ r. ⌜ Put (now (out .entry)) at (requestOf line) r (now (out .exit)) ⌝ }
+{
+    let Line::Request {
+        operation,
+        argument,
+        count,
+    } = line
+    else {
+        return at;
+    };
+    let bytes = request::encode(operation, argument, count);
+    put(&bytes, out, at)
+}
+
+// Writes what a bad line should have been and what it is, and of any other line nothing.
+pub(crate) fn put_message(line: &[u8], read: Line, number: u64, out: &mut [u8], at: usize) -> usize
+    requires { ⌜ at + messageRoom ≤ length (now out) ⌝ }
+    ensures { λ r. ⌜ r ≤ at + messageRoom ⌝ }
+    ensures { λ r. ⌜ Put (now (out .entry)) at (messageOf number (now (line .entry)) read) r (now (out .exit)) ⌝ }
+{
+    let end = say_expected(number, read, out, at);
+    match read {
+        Line::BadOperation(word) | Line::BadNumber(word) | Line::TrailingText(word) => {
+            put_found(line::word_bytes(line, word), out, end)
+        }
+        _ => end,
     }
 }

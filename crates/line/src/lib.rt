@@ -33,7 +33,8 @@ pub enum Line {
     TooLong,
 }
 
-const LONGEST: usize = 255;
+// How many bytes a line may have, its end not counted.
+pub const LONGEST: usize = 255;
 
 const OPERATIONS: u32 = 6;
 

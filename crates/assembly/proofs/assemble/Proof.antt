@@ -29,11 +29,11 @@ assemble-lines-requires c κs =
     room-left (a .input .now) (a .kept) (a .got) (a .number) (a .out .now) (a .errors .now) (gathered .gather .ensures)
     (tested .before .fits2 .ensures) (tested .if1 .taken)
 
-sub-start-len : tie.Need-sub-start-len
-sub-start-len c = search needs
+sub-least : tie.Need-sub-least
+sub-least c = search needs
 
-start-len-requires : tie.Need-start-len-requires
-start-len-requires c κs = search needs
+least-requires : tie.Need-least-requires
+least-requires c κs = search needs
 
 shift-requires : tie.Need-shift-requires
 shift-requires c κs = search needs
@@ -56,7 +56,7 @@ returns c =
     let gathered = tested .before .before .before .before in
     let a = gathered .before .before .before .before .before .args in
     let e = read .assemble-lines .ensures in
-    let n = counted .start-len in
+    let n = counted .least in
     let s = shifted .shift .ensures in
     let few = length-take (n .result) (drop (read .assemble-lines .result .used) (gathered .gather .last .0)) in (
       a-turn (a .input .now) (a .kept) (a .got) (a .number) (a .out .now) (a .errors .now) (gathered .gather .ensures)
@@ -86,8 +86,8 @@ assemble-spec =
     part-assemble-lines-start
     part-assemble-lines-end
     assemble-lines-requires
-    sub-start-len
-    start-len-requires
+    sub-least
+    least-requires
     shift-requires
     same-length
     same-length-2

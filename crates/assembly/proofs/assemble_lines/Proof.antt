@@ -3,7 +3,8 @@ use Prim.Native.Nat.{_-_, _≤_}
 use mathlib.Core.Path.{refl}
 use native.Mathlib.Omega.{arith}
 use lib.ListN.{length}
-use Rattle.assembly.proofs.Assembled.{Assembled, assembled-none, assembled-more, all-requests, all-messages, all-done}
+use Rattle.assembly.proofs.Assembled.{Assembled, filled-length, assembled-none, assembled-more}
+use Rattle.assembly.proofs.Assembled.{all-requests, all-messages, all-done}
 use Rattle.assembly.proofs.assemble_lines.Statement.{statement}
 use Rattle.assembly.proofs.assemble_lines.Tie as tie
 
@@ -21,29 +22,20 @@ find-requires c κs = omega arith
 loop-holds : tie.Need-loop-holds Inv-loop μ-loop
 loop-holds c = assembled-none (c .before .before .before .before .pre) (c .find .ensures .0) (omega arith)
 
-sub-read : tie.Need-sub-read Inv-loop μ-loop
-sub-read c = omega arith
+sub-text : tie.Need-sub-text Inv-loop μ-loop
+sub-text c = omega arith
 
-part-read-start : tie.Need-part-read-start Inv-loop μ-loop
-part-read-start c = omega arith
+part-text-start : tie.Need-part-text-start Inv-loop μ-loop
+part-text-start c = omega arith
 
-part-read-end : tie.Need-part-read-end Inv-loop μ-loop
-part-read-end c = omega arith
+part-text-end : tie.Need-part-text-end Inv-loop μ-loop
+part-text-end c = omega arith
 
 read-requires : tie.Need-read-requires Inv-loop μ-loop
 read-requires c κs = tt
 
 put-request-requires : tie.Need-put-request-requires Inv-loop μ-loop
 put-request-requires c κs = omega arith
-
-sub-put-message : tie.Need-sub-put-message Inv-loop μ-loop
-sub-put-message c = omega arith
-
-part-put-message-start : tie.Need-part-put-message-start Inv-loop μ-loop
-part-put-message-start c = omega arith
-
-part-put-message-end : tie.Need-part-put-message-end Inv-loop μ-loop
-part-put-message-end c = omega arith
 
 put-message-requires : tie.Need-put-message-requires Inv-loop μ-loop
 put-message-requires c κs = omega arith
@@ -62,27 +54,26 @@ loop-less c = omega arith
 
 loop-again : tie.Need-loop-again Inv-loop μ-loop
 loop-again c =
-    let m = c .before .before .before .put-message .ensures in
-    let b = c .before .before .before .before .before .before .before .before in
-    let q = b .put-request .ensures in
-    let r = b .before .before in
-    let l = r .before .before .before .loop in
-    assembled-more (l .inv) (omega arith) refl (r .read .ensures)
-    (q .0 .0) (q .0 .1) (q .1) (m .0 .0) (m .0 .1) (m .1) (c .find2 .ensures .0) (omega arith)
+    let m = c .before .before .before in
+    let q = m .before .before .before .before in
+    let r = q .before .before in
+    let p = r .before .before .before .loop .inv in
+    let (small, request) = q .put-request .ensures in
+    let (short, message) = m .put-message .ensures in
+    assembled-more p (omega arith) refl (r .read .ensures) small request short message (c .find2 .ensures .0) (omega arith)
 
 same-length : tie.Need-same-length Inv-loop μ-loop
-same-length c = c .before .loop .inv .out-kept
+same-length c = filled-length (c .before .loop .inv .requests)
 
 same-length-2 : tie.Need-same-length-2 Inv-loop μ-loop
-same-length-2 c = c .before .loop .inv .errors-kept
+same-length-2 c = filled-length (c .before .loop .inv .messages)
 
 returns : tie.Need-returns Inv-loop μ-loop
 returns c =
     let p = c .before .loop .inv in
     let a = c .before .before .before .before .before .before .args in
     let none : length (a .input .now) ≤ c .before .loop .end = omega arith in
-    rw (all-requests p none, all-messages p none)
-    ((all-done p none, omega arith), ((omega arith, omega arith), (p .requests-wrote .bytes, p .messages-wrote .bytes)))
+    ((all-done p none, omega arith), ((omega arith, omega arith), (all-requests p none .bytes, all-messages p none .bytes)))
 
 pub assemble-lines-spec : {M : Type 1} → statement M
 assemble-lines-spec =
@@ -92,14 +83,11 @@ assemble-lines-spec =
     μ-loop
     find-requires
     loop-holds
-    sub-read
-    part-read-start
-    part-read-end
+    sub-text
+    part-text-start
+    part-text-end
     read-requires
     put-request-requires
-    sub-put-message
-    part-put-message-start
-    part-put-message-end
     put-message-requires
     add-next
     add-used

@@ -34,7 +34,10 @@ returns c =
     let part = midOf (a .at) (a .at + n - a .at) (a .out .now) in
     let room : length part ≡ n = simp (length-take, length-drop) (omega arith) in
     let copied = c .before .before .copy .ensures .1 in
-    (refl, text-put (a .out .now) (a .text .now) part (a .at) (a .at + n - a .at) copied refl room (omega arith))
+    record {
+      place = refl;
+      bytes = text-put (a .out .now) (a .text .now) part (a .at) (a .at + n - a .at) copied refl room (omega arith);
+    }
 
 pub put-spec : {M : Type 1} → statement M
 put-spec =

@@ -20,7 +20,8 @@ unfolding bytes
 returns c =
     let b = c .before .before .before .before .before in
     let p = c .before .before .put .ensures in
-    rw (found-none (b .before .before .before .args .word .now) (b .if1 .taken)) ((p .0, omega arith), p .1)
+    let end = p .place in
+    rw (found-none (b .before .before .before .args .word .now) (b .if1 .taken)) (omega arith, p)
 
 put-word-requires : tie.Need-put-word-requires
 put-word-requires c κs = search needs

@@ -1,21 +1,22 @@
--- `put_shown` writes the bytes of a text as they are shown, one by one.
+-- `put_shown` writes the first bytes of a word as they are shown, one by one.
 use Prim.Native.Nat.{_-_, _≤_}
 use native.Mathlib.Omega.{arith}
-use lib.ListN.{length}
-use lib.Seq.{take-all}
 use Rattle.writing.proofs.Writing.{wrote-length}
-use Rattle.assembly.proofs.Putting.{Shown, shown-none, shown-more}
+use Rattle.assembly.proofs.Putting.{Shown, shown-none, shown-more, shown-all}
 use Rattle.assembly.proofs.output.put_shown.Statement.{statement}
 use Rattle.assembly.proofs.output.put_shown.Tie as tie
 
 abbrev Inv-loop : tie.InvT-loop
-Inv-loop text out₀ at i₀ out i = (i ≤ length text) × Shown text out₀ at out i
+Inv-loop word out₀ at count i₀ out i = (i ≤ count) × Shown word out₀ at out i
 
 abbrev μ-loop : tie.MeasureT-loop
-μ-loop text out₀ at i₀ out i = length text - i
+μ-loop word out₀ at count i₀ out i = count - i
+
+least-requires : tie.Need-least-requires Inv-loop μ-loop
+least-requires c κs = tt
 
 loop-holds : tie.Need-loop-holds Inv-loop μ-loop
-loop-holds c = (omega arith, shown-none (c .before .before .args .text .now) _ _ (omega arith))
+loop-holds c = (omega arith, shown-none (c .before .before .before .args .word .now) _ _ (omega arith))
 
 shared-slice-read-shown-byte : tie.Need-shared-slice-read-shown-byte Inv-loop μ-loop
 shared-slice-read-shown-byte c = omega arith
@@ -53,8 +54,7 @@ same-length c = wrote-length (c .before .loop .inv .1)
 returns : tie.Need-returns Inv-loop μ-loop
 returns c =
     let l = c .before .loop in
-    let all = take-all (l .i) (c .before .before .before .before .args .text .now) (omega arith) in
-    (omega arith, rw all at (l .inv .1 .bytes))
+    (omega arith, shown-all _ _ (l .out) _ (l .i) (l .inv .1) (omega arith))
 
 pub put-shown-spec : {M : Type 1} → statement M
 put-shown-spec =
@@ -62,6 +62,7 @@ put-shown-spec =
     (tie.spec
     Inv-loop
     μ-loop
+    least-requires
     loop-holds
     shared-slice-read-shown-byte
     shown-byte-requires

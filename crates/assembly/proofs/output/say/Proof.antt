@@ -7,6 +7,7 @@ use native.Mathlib.Omega.{arith}
 use Rattle.decimal.specs.Decimal.{width, decimal}
 use Rattle.line.specs.Text.{bytes}
 use Rattle.assembly.specs.Message.{said}
+use Rattle.assembly.specs.Put.{Put}
 use Rattle.assembly.proofs.Putting.{three-put}
 use Rattle.assembly.proofs.output.say.Statement.{statement}
 use Rattle.assembly.proofs.output.say.Tie as tie
@@ -30,15 +31,10 @@ returns : tie.Need-returns
 unfolding bytes said
 returns c =
     let numbered = c .before .before .before .before .before .before in
-    let named = numbered .before .before .before .before in
-    let a = named .before .before .before .before .before .args in
-    let f = named .put in
+    let f = numbered .before .before .before .before .put in
     let g = rw (le-leb width (length (f .last .1 .0) - f .result) (omega arith)) at (numbered .put2 .ensures) in
-    let h = c .before .before .put3 in
-    let p =
-    three-put (a .out .now) (bytes "line ") (decimal (a .number)) (a .at) _ (f .ensures .1) (f .ensures .0)
-    (a .text .now) _ (omega arith) (g .1) (g .0 .0) (h .ensures .1) (h .ensures .0) in
-    ((p .0, omega arith), p .1)
+    let second : Put _ _ (decimal _) _ _ = record { place = g .0 .0; bytes = g .1 } in
+    (omega arith, three-put (f .ensures) second (c .before .before .put3 .ensures) (omega arith))
 
 pub say-spec : {M : Type 1} → statement M
 say-spec =

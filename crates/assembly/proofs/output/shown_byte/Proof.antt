@@ -1,17 +1,20 @@
 -- `shown_byte` keeps the bytes between two others.
-use native.Mathlib.Omega.{arith}
-use Rattle.assembly.proofs.Putting.{low-byte, high-byte, plain-byte}
+use borrow.Author.Tests.{le-leb, lt-leb}
+use Rattle.assembly.specs.Message.{shownByte}
 use Rattle.assembly.proofs.output.shown_byte.Statement.{statement}
 use Rattle.assembly.proofs.output.shown_byte.Tie as tie
 
 returns : tie.Need-returns
-returns c = low-byte _ (omega arith)
+unfolding shownByte
+returns c = rw (lt-leb _ _ (c .if1 .taken))
 
 returns-2 : tie.Need-returns-2
-returns-2 c = high-byte _ (omega arith) (omega arith)
+unfolding shownByte
+returns-2 c = rw (le-leb _ _ (c .before .if1 .left), lt-leb _ _ (c .if2 .taken))
 
 returns-3 : tie.Need-returns-3
-returns-3 c = plain-byte _ (omega arith) (omega arith)
+unfolding shownByte
+returns-3 c = rw (le-leb _ _ (c .before .if1 .left), le-leb _ _ (c .if2 .left))
 
 pub shown-byte-spec : {M : Type 1} → statement M
 shown-byte-spec = tie.close (tie.spec returns returns-2 returns-3)
