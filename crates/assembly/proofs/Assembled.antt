@@ -17,7 +17,7 @@ use Rattle.assembly.specs.Batch.{doneOf, fits}
 use Rattle.assembly.specs.declared.Done.{Done}
 use Rattle.assembly.proofs.Room.{room-known}
 use Rattle.assembly.proofs.Putting.{two-put, nothing-put}
-use Rattle.assembly.proofs.Splitting.{line-found, rest-found, no-line, no-more}
+use Rattle.assembly.proofs.Splitting.{split-lines, split-rest, line-found, no-line}
 
 -- of all that is to be written at the front of a buffer, the part before place n is
 pub record Filled (out₀ out : List ℕ) (n : ℕ) (all left : List ℕ) : Type 0 where
@@ -93,18 +93,20 @@ module _ {input : List ℕ} {number : ℕ} {out₀ errors₀ : List ℕ} where
         → Assembled input number out₀ errors₀ out₁ errors₁ (end + 1) (next + 1) r m last
     unfolding requestsOf messagesOf
     assembled-more some t e small put small' put' f w =
-        let split = line-found input at end (p .found) start some in
+        let found = line-found input at end (p .found) start some in
+        let split = split-lines found in
         let from : at ≤ end = start in
         let after = drop (end + 1) input in
+        let later = messagesIn (next + 1) after in
         let requests = filled-more (p .requests) {more = requestsIn after} (rw (split, e, t)) put (omega arith) in
-        let messages = filled-more (p .messages) {more = messagesIn (next + 1) after} (rw (split, e, t)) put' (omega arith) in
+        let messages = filled-more (p .messages) {more = later} (rw (split, e, t)) put' (omega arith) in
         let kept = filled-length (p .requests) ∙ sym (filled-length requests) in
         let kept' = filled-length (p .messages) ∙ sym (filled-length messages) in
         record {
           requests = requests;
           messages = messages;
           lines-rest = p .lines-rest ∙ rw split (omega arith);
-          text-rest = p .text-rest ∙ rest-found input at end (p .found) start some;
+          text-rest = p .text-rest ∙ split-rest found;
           found = f;
           within = w;
           requests-room = omega arith;
@@ -115,7 +117,7 @@ module _ {input : List ℕ} {number : ℕ} {out₀ errors₀ : List ℕ} where
     -- all lines are read
     module _ (none : length input ≤ end) where
       last : lines (drop at input) ≡ []
-      last = no-line input at end (p .found) none
+      last = split-lines (no-line input at end (p .found) none)
 
       pub all-requests : Put out₀ 0 (requestsIn input) filled out
       unfolding requestsOf
@@ -130,7 +132,7 @@ module _ {input : List ℕ} {number : ℕ} {out₀ errors₀ : List ℕ} where
       unfolding doneOf
       all-done =
           let left : length (rest input) ≡ length input - at =
-          rw (p .text-rest, no-more input at end (p .found) none) (length-drop at input) in
+          rw (p .text-rest, split-rest (no-line input at end (p .found) none)) (length-drop at input) in
           let from : at ≤ end = start in
           let w = p .within in
           let read : at ≡ used input = omega arith in

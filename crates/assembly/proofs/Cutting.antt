@@ -1,5 +1,5 @@
 -- However an input is cut into pieces, its lines are read as they are from the whole.
-use Prim.Native.Nat.{ℕ, _+_, _<_}
+use Prim.Native.Nat.{ℕ, zero, suc, _+_, _<_}
 use native.Mathlib.Decide.{decLt}
 use native.Mathlib.Omega.{arith}
 use mathlib.Core.Path.{_≡_, refl, sym, ap, _∙_}
@@ -15,77 +15,42 @@ use Rattle.assembly.specs.Pieces.{longestStart, whole, linesIn}
 use Rattle.line.specs.declared.Line.{Line}
 use Rattle.line.specs.declared.Line.the-variants.{TooLong}
 use Rattle.line.proofs.Reading.{long-line}
-use Rattle.assembly.proofs.Splitting.{lines-end, lines-byte, rest-end, rest-byte}
+use Rattle.assembly.proofs.Splitting.{Splits, none, end, byte, splits, split-lines, split-rest}
 
--- what two texts come to, the second after the first
-module _ (more : List ℕ) where
-  lines-append : (text line : List ℕ) → linesFrom line (text ++ more) ≡ linesFrom line text ++ linesFrom (restFrom line text) more
-  unfolding linesFrom restFrom
-  lines-append [] line = refl
-  lines-append (b ∷ text) line = go (lines-append text []) (lines-append text (line ++ (b ∷ []))) (eqb b newline) refl
-    where
-      go : linesFrom [] (text ++ more) ≡ linesFrom [] text ++ linesFrom (restFrom [] text) more
-          → linesFrom (line ++ (b ∷ [])) (text ++ more) ≡ linesFrom (line ++ (b ∷ [])) text ++ linesFrom (restFrom (line ++ (b ∷ [])) text) more
-          → (t : Bool) → eqb b newline ≡ t → linesFrom line (b ∷ (text ++ more)) ≡ linesFrom line (b ∷ text) ++ linesFrom (restFrom line (b ∷ text)) more
-      go f g true e = rw (lines-end line b (text ++ more) e, lines-end line b text e, rest-end line b text e, f)
-      go f g false e = rw (lines-byte line b (text ++ more) e, lines-byte line b text e, rest-byte line b text e) g
+-- two texts, the second after the first
+joined : {line a b mid left : List ℕ} {ls ms : List (List ℕ)} → Splits line a ls mid → Splits mid b ms left
+    → Splits line (a ++ b) (ls ++ ms) left
+joined none s = s
+joined (end e r) s = end e (joined r s)
+joined (byte e r) s = byte e (joined r s)
 
-  rest-append : (text line : List ℕ) → restFrom line (text ++ more) ≡ restFrom (restFrom line text) more
-  unfolding restFrom
-  rest-append [] line = refl
-  rest-append (b ∷ text) line = go (rest-append text []) (rest-append text (line ++ (b ∷ []))) (eqb b newline) refl
-    where
-      go : restFrom [] (text ++ more) ≡ restFrom (restFrom [] text) more
-          → restFrom (line ++ (b ∷ [])) (text ++ more) ≡ restFrom (restFrom (line ++ (b ∷ [])) text) more
-          → (t : Bool) → eqb b newline ≡ t → restFrom line (b ∷ (text ++ more)) ≡ restFrom (restFrom line (b ∷ text)) more
-      go f g true e = rw (rest-end line b (text ++ more) e, rest-end line b text e) f
-      go f g false e = rw (rest-byte line b (text ++ more) e, rest-byte line b text e) g
+-- a text that ends no line
+data Open : List ℕ → Type 0 where
+  empty : Open []
+  inside : {b : ℕ} {text : List ℕ} → eqb b newline ≡ false → Open text → Open (b ∷ text)
 
--- a text that ends no line is what is left
-unended : (text line : List ℕ) → linesFrom line text ≡ [] → restFrom line text ≡ line ++ text
-unfolding linesFrom restFrom
-unended [] line h = sym (append-nil line)
-unended (b ∷ text) line h = go (unended text (line ++ (b ∷ []))) (eqb b newline) refl
-  where
-    go : (linesFrom (line ++ (b ∷ [])) text ≡ [] → restFrom (line ++ (b ∷ [])) text ≡ (line ++ (b ∷ [])) ++ text)
-        → (t : Bool) → eqb b newline ≡ t → restFrom line (b ∷ text) ≡ line ++ (b ∷ text)
-    go f true e = absurd (some (linesFrom [] text) (sym (lines-end line b text e) ∙ h))
-      where
-        some : (more : List (List ℕ)) → line ∷ more ≡ [] → ⊥
-        some more q = let z : _≡_ {A = ℕ} 0 1 = cc in omega arith
-    go f false e = rest-byte line b text e ∙ f (sym (lines-byte line b text e) ∙ h) ∙ append-assoc line (b ∷ []) text
+open-append : {a b : List ℕ} → Open a → Open b → Open (a ++ b)
+open-append empty p = p
+open-append (inside e o) p = inside e (open-append o p)
+
+open-start : (n : ℕ) {text : List ℕ} → Open text → Open (take n text)
+open-start zero o = empty
+open-start (suc n) empty = empty
+open-start (suc n) (inside e o) = inside e (open-start n o)
+
+-- what is left of a text ends none
+open-rest : {line text left : List ℕ} {ls : List (List ℕ)} → Splits line text ls left → Open line → Open left
+open-rest none o = o
+open-rest (end e s) o = open-rest s empty
+open-rest (byte e s) o = open-rest s (open-append o (inside e empty))
+
+begun : {text : List ℕ} → Open text → (line : List ℕ) → Splits line text [] (line ++ text)
+begun empty line = rw append-nil none
+begun (inside {b = b} {text = text} e o) line = rw (← append-assoc line (b ∷ []) text) (byte e (begun o (line ++ (b ∷ []))))
 
 -- the start of an unfinished line, put before what is read next
-module _ (line text : List ℕ) (none : lines line ≡ []) where
-  left : rest line ≡ line
-  left = unended line [] none
-
-  resumed-lines : lines (line ++ text) ≡ linesFrom line text
-  resumed-lines = lines-append text line [] ∙ rw (none, left)
-
-  resumed-rest : rest (line ++ text) ≡ restFrom line text
-  resumed-rest = rest-append text line [] ∙ rw left
-
--- what is left of a text ends no line
-rest-open : (text line : List ℕ) → lines line ≡ [] → lines (restFrom line text) ≡ []
-unfolding linesFrom restFrom
-rest-open [] line h = h
-rest-open (b ∷ text) line h = go (rest-open text [] refl) (rest-open text (line ++ (b ∷ []))) (eqb b newline) refl
-  where
-    go : lines (restFrom [] text) ≡ [] → (lines (line ++ (b ∷ [])) ≡ [] → lines (restFrom (line ++ (b ∷ [])) text) ≡ [])
-        → (t : Bool) → eqb b newline ≡ t → lines (restFrom line (b ∷ text)) ≡ []
-    go f g true e = rw (rest-end line b text e) f
-    go f g false e = rw (rest-byte line b text e) (g (resumed-lines line (b ∷ []) h ∙ lines-byte line b [] e))
-
--- its start does not either
-first-none : (a b : List (List ℕ)) → a ++ b ≡ [] → a ≡ []
-first-none [] b h = refl
-first-none (x ∷ a) b h = absurd (let z : _≡_ {A = ℕ} 0 1 = cc in omega arith)
-
-start-open : (n : ℕ) (line : List ℕ) → lines line ≡ [] → lines (take n line) ≡ []
-start-open n line h =
-    let split : lines (take n line ++ drop n line) ≡ [] = rw (take-append-drop n line) h in
-    first-none (lines (take n line)) (linesFrom (rest (take n line)) (drop n line)) (sym (lines-append (drop n line) (take n line) []) ∙ split)
+resumed : {line : List ℕ} → Open line → (text : List ℕ) → Splits [] (line ++ text) (linesFrom line text) (restFrom line text)
+resumed {line} o text = joined (begun o []) (splits text line)
 
 -- something that is told of each line by its bytes and how it is read; where it is too long, not by its bytes
 module _ {A : Type 0} (tell : List ℕ → Line → A) (blind : (a b : List ℕ) → tell a TooLong ≡ tell b TooLong) where
@@ -110,51 +75,34 @@ module _ {A : Type 0} (tell : List ℕ → Line → A) (blind : (a b : List ℕ)
   alike-byte : {a b : List ℕ} → Alike a b → (x : ℕ) → Alike (a ++ (x ∷ [])) (b ++ (x ∷ []))
   alike-byte {a} {b} s x = record { alike = λ v. rw (append-assoc a (x ∷ []) v, append-assoc b (x ∷ []) v) (s .alike (x ∷ v)) }
 
-  alike-lines : (text : List ℕ) {a b : List ℕ} → Alike a b → map told (linesFrom a text) ≡ map told (linesFrom b text)
-  unfolding linesFrom
-  alike-lines [] s = refl
-  alike-lines (x ∷ text) {a} {b} s = go (alike-lines text (alike-byte s x)) (eqb x newline) refl
-    where
-      go : map told (linesFrom (a ++ (x ∷ [])) text) ≡ map told (linesFrom (b ++ (x ∷ [])) text)
-          → (t : Bool) → eqb x newline ≡ t → map told (linesFrom a (x ∷ text)) ≡ map told (linesFrom b (x ∷ text))
-      go g true e =
-          let here : told a ≡ told b = rw (append-nil a, append-nil b) at (s .alike []) in
-          rw (lines-end a x text e, lines-end b x text e, here)
-      go g false e = rw (lines-byte a x text e, lines-byte b x text e) g
+  alike-here : {a b : List ℕ} → Alike a b → told a ≡ told b
+  alike-here {a} {b} s = rw (append-nil a, append-nil b) at (s .alike [])
 
-  alike-rest : (text : List ℕ) {a b : List ℕ} → Alike a b → Alike (restFrom a text) (restFrom b text)
-  unfolding restFrom
-  alike-rest [] s = s
-  alike-rest (x ∷ text) {a} {b} s = go (alike-rest text (alike-byte s x)) (eqb x newline) refl
-    where
-      go : Alike (restFrom (a ++ (x ∷ [])) text) (restFrom (b ++ (x ∷ [])) text) → (t : Bool) → eqb x newline ≡ t → Alike (restFrom a (x ∷ text)) (restFrom b (x ∷ text))
-      go g true e = rw (rest-end a x text e, rest-end b x text e) record { alike = λ v. refl }
-      go g false e = rw (rest-byte a x text e, rest-byte b x text e) g
+  alike-after : {a text left : List ℕ} {ls : List (List ℕ)} → Splits a text ls left → {b : List ℕ} → Alike a b
+      → (map told ls ≡ map told (linesFrom b text)) × Alike left (restFrom b text)
+  unfolding linesFrom restFrom
+  alike-after none s = (refl, s)
+  alike-after (end e r) s =
+      let f = alike-after r {b = []} (record { alike = λ v. refl }) in
+      rw (e, linesFrom, restFrom) (cc (alike-here s, f .0), f .1)
+  alike-after (byte {b = x} e r) s = rw (e, linesFrom, restFrom) (alike-after r (alike-byte s x))
 
   alike-start : {a b : List ℕ} → Alike a b → Alike (take longestStart a) b
   alike-start {a} s = record { alike = λ v. enough a v ∙ s .alike v }
 
-  read-in : (pieces : List (List ℕ)) (kept : List ℕ) {line : List ℕ} → lines kept ≡ [] → Alike kept line
+  read-in : (pieces : List (List ℕ)) {kept line : List ℕ} → Open kept → Alike kept line
       → map told (linesIn kept pieces) ≡ map told (linesFrom line (whole pieces))
   unfolding linesIn whole linesFrom
-  read-in [] kept none s = refl
-  read-in (piece ∷ more) kept {line} none s =
-      let next : List ℕ = take longestStart (restFrom kept piece) in
-      let later : map told (linesIn next more) ≡ map told (linesFrom (restFrom line piece) (whole more)) =
-      read-in more next (start-open longestStart (restFrom kept piece) (rest-open piece kept none)) (alike-start (alike-rest piece s)) in
-      rw (
-        resumed-lines kept piece none,
-        resumed-rest kept piece none,
-        map-append,
-        lines-append (whole more) piece line,
-        map-append,
-        alike-lines piece s,
-        later,
-      )
+  read-in [] o s = refl
+  read-in (piece ∷ more) {kept} {line} o s =
+      let here = splits piece kept in
+      let (same, alike) = alike-after here s in
+      let later = read-in more (open-start longestStart (open-rest here o)) (alike-start alike) in
+      let all = joined (splits piece line) (splits (whole more) (restFrom line piece)) in
+      rw (split-lines (resumed o piece), split-rest (resumed o piece), split-lines all, map-append, map-append, same, later)
 
   told-however-cut : (pieces : List (List ℕ)) → map told (linesIn [] pieces) ≡ map told (lines (whole pieces))
-  unfolding linesFrom
-  told-however-cut pieces = read-in pieces [] refl (record { alike = λ v. refl })
+  told-however-cut pieces = read-in pieces empty (record { alike = λ v. refl })
 
 -- requests and messages, from what is told of each line
 requests-told : (xs : List (List ℕ)) → requestsOf xs ≡ whole (map (λ line. requestOf (readLine line)) xs)

@@ -10,92 +10,74 @@ use lib.Dec.{eqb}
 use Rattle.bytes.specs.Bytes.{slice, indexOf, indexAfter}
 use Rattle.assembly.specs.Batch.{newline, linesFrom, restFrom, lines, rest}
 
--- the next byte ends the line, or is one of its bytes
-module _ (line : List ℕ) (b : ℕ) (text : List ℕ) where
-  pub lines-end : eqb b newline ≡ true → linesFrom line (b ∷ text) ≡ line ∷ linesFrom [] text
-  unfolding linesFrom
-  lines-end e = rw (e, linesFrom)
+-- a text after the start of a line, the lines that it ends, and what is left: the next byte ends the line, or is one of
+-- its bytes
+pub data Splits : List ℕ → List ℕ → List (List ℕ) → List ℕ → Type 0 where
+  none : {line : List ℕ} → Splits line [] [] line
+  end : {line text left : List ℕ} {b : ℕ} {ls : List (List ℕ)} → eqb b newline ≡ true → Splits [] text ls left
+      → Splits line (b ∷ text) (line ∷ ls) left
+  byte : {line text left : List ℕ} {b : ℕ} {ls : List (List ℕ)} → eqb b newline ≡ false
+      → Splits (line ++ (b ∷ [])) text ls left → Splits line (b ∷ text) ls left
 
-  pub lines-byte : eqb b newline ≡ false → linesFrom line (b ∷ text) ≡ linesFrom (line ++ (b ∷ [])) text
-  unfolding linesFrom
-  lines-byte e = rw (e, linesFrom)
-
-  pub rest-end : eqb b newline ≡ true → restFrom line (b ∷ text) ≡ restFrom [] text
-  unfolding restFrom
-  rest-end e = rw (e, restFrom)
-
-  pub rest-byte : eqb b newline ≡ false → restFrom line (b ∷ text) ≡ restFrom (line ++ (b ∷ [])) text
-  unfolding restFrom
-  rest-byte e = rw (e, restFrom)
-
-module _ (b : ℕ) (text : List ℕ) where
-  index-end : eqb b newline ≡ true → indexOf newline (b ∷ text) ≡ 0
-  unfolding indexOf indexAfter
-  index-end e = rw e
-
-  index-byte : eqb b newline ≡ false → indexOf newline (b ∷ text) ≡ suc (indexOf newline text)
-  unfolding indexOf indexAfter
-  index-byte e = rw e
-
--- what the first line end says of the lines
-record Split (line text : List ℕ) (k : ℕ) : Type 0 where
-  lines-some : k < length text → linesFrom line text ≡ (line ++ take k text) ∷ linesFrom [] (drop (suc k) text)
-  rest-some : k < length text → restFrom line text ≡ restFrom [] (drop (suc k) text)
-  lines-none : length text ≤ k → linesFrom line text ≡ []
-  rest-none : length text ≤ k → restFrom line text ≡ line ++ text
-
-split : (text line : List ℕ) → Split line text (indexOf newline text)
+pub splits : (text line : List ℕ) → Splits line text (linesFrom line text) (restFrom line text)
 unfolding linesFrom restFrom
-split [] line =
-    record {
-      lines-some = λ h. absurd (omega arith);
-      rest-some = λ h. absurd (omega arith);
-      lines-none = λ h. refl;
-      rest-none = λ h. sym (append-nil line);
-    }
-split (b ∷ text) line = go (split text (line ++ (b ∷ []))) (eqb b newline) refl
+splits [] line = none
+splits (b ∷ text) line = go (splits text []) (splits text (line ++ (b ∷ []))) (eqb b newline) refl
   where
-    go : Split (line ++ (b ∷ [])) text (indexOf newline text) → (t : Bool) → eqb b newline ≡ t → Split line (b ∷ text) (indexOf newline (b ∷ text))
-    go more true e =
-        rw (index-end b text e)
-        record {
-          lines-some = λ h. lines-end line b text e ∙ rw append-nil;
-          rest-some = λ h. rest-end line b text e;
-          lines-none = λ h. absurd (omega arith);
-          rest-none = λ h. absurd (omega arith);
-        }
+    go : Splits [] text (lines text) (rest text)
+        → Splits (line ++ (b ∷ [])) text (linesFrom (line ++ (b ∷ [])) text) (restFrom (line ++ (b ∷ [])) text)
+        → (t : Bool) → eqb b newline ≡ t → Splits line (b ∷ text) (linesFrom line (b ∷ text)) (restFrom line (b ∷ text))
+    go f g true e = rw (e, linesFrom, restFrom) (end e f)
+    go f g false e = rw (e, linesFrom, restFrom) (byte e g)
+
+-- there is no other way to split it
+pub split-lines : {line text left : List ℕ} {ls : List (List ℕ)} → Splits line text ls left → linesFrom line text ≡ ls
+unfolding linesFrom
+split-lines none = refl
+split-lines (end e s) = rw (e, linesFrom, split-lines s)
+split-lines (byte e s) = rw (e, linesFrom) (split-lines s)
+
+pub split-rest : {line text left : List ℕ} {ls : List (List ℕ)} → Splits line text ls left → restFrom line text ≡ left
+unfolding restFrom
+split-rest none = refl
+split-rest (end e s) = rw (e, restFrom) (split-rest s)
+split-rest (byte e s) = rw (e, restFrom) (split-rest s)
+
+-- what the first line end says
+record First (line text : List ℕ) (k : ℕ) : Type 0 where
+  some : k < length text → Splits line text ((line ++ take k text) ∷ lines (drop (suc k) text)) (rest (drop (suc k) text))
+  last : length text ≤ k → Splits line text [] (line ++ text)
+
+first-end : (text line : List ℕ) → First line text (indexOf newline text)
+unfolding indexOf indexAfter
+first-end [] line = record { some = λ h. absurd (omega arith); last = λ h. rw append-nil none }
+first-end (b ∷ text) line = go (first-end text (line ++ (b ∷ []))) (eqb b newline) refl
+  where
+    go : First (line ++ (b ∷ [])) text (indexOf newline text) → (t : Bool) → eqb b newline ≡ t
+        → First line (b ∷ text) (indexOf newline (b ∷ text))
+    go more true e = rw e record { some = λ h. rw append-nil (end e (splits text [])); last = λ h. absurd (omega arith) }
     go more false e =
-        rw (index-byte b text e)
+        rw e
         record {
-          lines-some = λ h. lines-byte line b text e ∙ more .lines-some (omega arith) ∙ rw append-assoc;
-          rest-some = λ h. rest-byte line b text e ∙ more .rest-some (omega arith);
-          lines-none = λ h. lines-byte line b text e ∙ more .lines-none (omega arith);
-          rest-none = λ h. rest-byte line b text e ∙ more .rest-none (omega arith) ∙ append-assoc line (b ∷ []) text;
+          some = λ h. rw (← append-assoc line (b ∷ []) (take (indexOf newline text) text)) (byte e (more .some (omega arith)));
+          last = λ h. rw (← append-assoc line (b ∷ []) text) (byte e (more .last (omega arith)));
         }
 
 -- a line starts at a place, and the next line end or the end of the input is found
 module _ (input : List ℕ) (at end : ℕ) (found : end ≡ at + indexOf newline (slice at (length input) input)) where
-  here : Split [] (drop at input) (end - at)
+  here : First [] (drop at input) (end - at)
   unfolding slice
   here =
       let e : end ≡ at + indexOf newline (drop at input) = rw take-length at found in
       let k : end - at ≡ indexOf newline (drop at input) = omega arith in
-      rw k (split (drop at input) [])
+      rw k (first-end (drop at input) [])
 
-  module _ (within : at ≤ end) where
-    after : drop (suc (end - at)) (drop at input) ≡ drop (end + 1) input
-    after =
-        let k : at + suc (end - at) ≡ end + 1 = omega arith in
-        rw (drop-drop, k)
+  pub line-found : at ≤ end → end < length input → let after = drop (end + 1) input in
+      Splits [] (drop at input) (take (end - at) (drop at input) ∷ lines after) (rest after)
+  line-found within h =
+      let k : at + suc (end - at) ≡ end + 1 = omega arith in
+      let after : drop (suc (end - at)) (drop at input) ≡ drop (end + 1) input = rw (drop-drop, k) in
+      rw after at (here .some (rw length-drop (omega arith)))
 
-    pub line-found : end < length input → lines (drop at input) ≡ take (end - at) (drop at input) ∷ lines (drop (end + 1) input)
-    line-found h = rw (← after) (here .lines-some (rw length-drop (omega arith)))
-
-    pub rest-found : end < length input → rest (drop at input) ≡ rest (drop (end + 1) input)
-    rest-found h = rw (← after) (here .rest-some (rw length-drop (omega arith)))
-
-  pub no-line : length input ≤ end → lines (drop at input) ≡ []
-  no-line h = here .lines-none (rw length-drop (omega arith))
-
-  pub no-more : length input ≤ end → rest (drop at input) ≡ drop at input
-  no-more h = here .rest-none (rw length-drop (omega arith))
+  pub no-line : length input ≤ end → Splits [] (drop at input) [] (drop at input)
+  no-line h = here .last (rw length-drop (omega arith))

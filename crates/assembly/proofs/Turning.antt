@@ -15,28 +15,26 @@ use Rattle.assembly.specs.Turn.{textIn, outcome}
 use Rattle.assembly.specs.declared.Done.{Done}
 use Rattle.assembly.proofs.Gathering.{Gathers}
 use Rattle.assembly.proofs.Putting.{take-min}
-use Rattle.assembly.proofs.Splitting.{rest-end, rest-byte}
+use Rattle.assembly.proofs.Splitting.{Splits, none, end, byte, splits}
 
 -- what is left of a text is its end
 record Ends (all end : List ℕ) : Type 0 where
   front : List ℕ
   split : all ≡ front ++ end
 
-ends : (text line : List ℕ) → Ends (line ++ text) (restFrom line text)
-unfolding restFrom
-ends [] line = record { front = []; split = append-nil line }
-ends (b ∷ text) line = go (ends text []) (ends text (line ++ (b ∷ []))) (eqb b newline) refl
-  where
-    go : Ends text (restFrom [] text) → Ends ((line ++ (b ∷ [])) ++ text) (restFrom (line ++ (b ∷ [])) text)
-        → (t : Bool) → eqb b newline ≡ t → Ends (line ++ (b ∷ text)) (restFrom line (b ∷ text))
-    go f g true e =
-        rw (rest-end line b text e)
-        record { front = line ++ (b ∷ f .front); split = ap (λ (l : List ℕ). line ++ (b ∷ l)) (f .split) ∙ sym (append-assoc line (b ∷ f .front) (rest text)) }
-    go f g false e = rw (rest-byte line b text e) record { front = g .front; split = sym (append-assoc line (b ∷ []) text) ∙ g .split }
+ends : {line text left : List ℕ} {ls : List (List ℕ)} → Splits line text ls left → Ends (line ++ text) left
+ends (none {line = line}) = record { front = []; split = append-nil line }
+ends {left = left} (end {line = line} {b = b} e s) =
+    let f = ends s in
+    let front = b ∷ f .front in
+    record { front = line ++ front; split = rw (append-assoc line front left, ← f .split) }
+ends (byte {line = line} {text = text} {b = b} e s) =
+    let f = ends s in
+    record { front = f .front; split = sym (append-assoc line (b ∷ []) text) ∙ f .split }
 
 pub rest-left : (text : List ℕ) → drop (used text) text ≡ rest text
 rest-left text =
-    let p = ends text [] in
+    let p = ends (splits text []) in
     let size : length text ≡ length (p .front) + length (rest text) = ap length (p .split) ∙ length-append (p .front) (rest text) in
     let front : length (p .front) ≡ used text = omega arith in
     ap (drop (used text)) (p .split) ∙ drop-at (p .front) (rest text) (used text) front
