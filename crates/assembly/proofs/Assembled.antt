@@ -127,12 +127,14 @@ module _ {input : List ℕ} {number : ℕ} {out₀ errors₀ : List ℕ} where
       unfolding messagesOf
       all-messages = filled-all (p .messages) (rw last)
 
+      pub all-left : drop at input ≡ rest input
+      all-left = sym (p .text-rest ∙ split-rest (no-line input at end (p .found) none))
+
       pub all-done : _≡_ {A = Done} (record { used = at; next = next; requests = filled; messages = said })
           (doneOf number input)
       unfolding doneOf
       all-done =
-          let left : length (rest input) ≡ length input - at =
-          rw (p .text-rest, split-rest (no-line input at end (p .found) none)) (length-drop at input) in
+          let left : length (rest input) ≡ length input - at = rw (← all-left) (length-drop at input) in
           let from : at ≤ end = start in
           let w = p .within in
           let read : at ≡ used input = omega arith in

@@ -3,14 +3,14 @@ use Prim.Native.Nat.{ℕ, zero, suc, _+_, _<_}
 use native.Mathlib.Decide.{decLt}
 use native.Mathlib.Omega.{arith}
 use mathlib.Core.Path.{_≡_, refl, sym, ap, _∙_}
-use mathlib.Core.Bool.{Bool, true, false}
+use mathlib.Core.Bool.{false}
 use mathlib.Core.List.{List, [], _∷_, _++_, append-assoc, append-nil, map, map-append}
-use lib.ListN.{length, take, drop, length-append, length-take, take-append-drop}
+use lib.ListN.{length, take, length-append, length-take}
 use lib.Seq.{take-all}
 use lib.Dec.{eqb}
 use Rattle.line.specs.Line.{longestLine, readLine, requestOf}
 use Rattle.assembly.specs.Message.{foundIn, messageOf}
-use Rattle.assembly.specs.Batch.{newline, linesFrom, restFrom, lines, rest, requestsOf, messagesOf}
+use Rattle.assembly.specs.Batch.{newline, linesFrom, restFrom, lines, requestsOf, messagesOf}
 use Rattle.assembly.specs.Pieces.{longestStart, whole, linesIn}
 use Rattle.line.specs.declared.Line.{Line}
 use Rattle.line.specs.declared.Line.the-variants.{TooLong}
@@ -46,10 +46,12 @@ open-rest (byte e s) o = open-rest s (open-append o (inside e empty))
 
 begun : {text : List ℕ} → Open text → (line : List ℕ) → Splits line text [] (line ++ text)
 begun empty line = rw append-nil none
-begun (inside {b = b} {text = text} e o) line = rw (← append-assoc line (b ∷ []) text) (byte e (begun o (line ++ (b ∷ []))))
+begun (inside {b = b} {text = text} e o) line =
+    rw (← append-assoc line (b ∷ []) text) (byte e (begun o (line ++ (b ∷ []))))
 
 -- the start of an unfinished line, put before what is read next
-resumed : {line : List ℕ} → Open line → (text : List ℕ) → Splits [] (line ++ text) (linesFrom line text) (restFrom line text)
+resumed : {line : List ℕ} → Open line → (text : List ℕ)
+    → Splits [] (line ++ text) (linesFrom line text) (restFrom line text)
 resumed {line} o text = joined (begun o []) (splits text line)
 
 -- something that is told of each line by its bytes and how it is read; where it is too long, not by its bytes
@@ -63,9 +65,10 @@ module _ {A : Type 0} (tell : List ℕ → Line → A) (blind : (a b : List ℕ)
     where
       go : Dec (longestStart < length line) → told (take longestStart line ++ v) ≡ told (line ++ v)
       go (yes h) =
-          let short : longestLine + 1 < length (take longestStart line ++ v) = rw (length-append, length-take) (omega arith) in
+          let start : List ℕ = take longestStart line ++ v in
+          let short : longestLine + 1 < length start = rw (length-append, length-take) (omega arith) in
           let long : longestLine + 1 < length (line ++ v) = rw length-append (omega arith) in
-          rw (← long-line (take longestStart line ++ v) short, ← long-line (line ++ v) long) (blind (take longestStart line ++ v) (line ++ v))
+          rw (← long-line start short, ← long-line (line ++ v) long) (blind start (line ++ v))
       go (no h) = rw (take-all longestStart line (omega arith))
 
   -- one text stands for another as the start of a line
@@ -73,7 +76,9 @@ module _ {A : Type 0} (tell : List ℕ → Line → A) (blind : (a b : List ℕ)
     alike : (v : List ℕ) → told (a ++ v) ≡ told (b ++ v)
 
   alike-byte : {a b : List ℕ} → Alike a b → (x : ℕ) → Alike (a ++ (x ∷ [])) (b ++ (x ∷ []))
-  alike-byte {a} {b} s x = record { alike = λ v. rw (append-assoc a (x ∷ []) v, append-assoc b (x ∷ []) v) (s .alike (x ∷ v)) }
+  alike-byte {a} {b} s x = record {
+    alike = λ v. rw (append-assoc a (x ∷ []) v, append-assoc b (x ∷ []) v) (s .alike (x ∷ v));
+  }
 
   alike-here : {a b : List ℕ} → Alike a b → told a ≡ told b
   alike-here {a} {b} s = rw (append-nil a, append-nil b) at (s .alike [])
@@ -96,10 +101,11 @@ module _ {A : Type 0} (tell : List ℕ → Line → A) (blind : (a b : List ℕ)
   read-in [] o s = refl
   read-in (piece ∷ more) {kept} {line} o s =
       let here = splits piece kept in
+      let first = resumed o piece in
+      let all = joined (splits piece line) (splits (whole more) (restFrom line piece)) in
       let (same, alike) = alike-after here s in
       let later = read-in more (open-start longestStart (open-rest here o)) (alike-start alike) in
-      let all = joined (splits piece line) (splits (whole more) (restFrom line piece)) in
-      rw (split-lines (resumed o piece), split-rest (resumed o piece), split-lines all, map-append, map-append, same, later)
+      rw (split-lines first, split-rest first, split-lines all, map-append, map-append, same, later)
 
   told-however-cut : (pieces : List (List ℕ)) → map told (linesIn [] pieces) ≡ map told (lines (whole pieces))
   told-however-cut pieces = read-in pieces empty (record { alike = λ v. refl })
@@ -114,7 +120,8 @@ numbered : ℕ → List (ℕ → List ℕ) → List ℕ
 numbered number [] = []
 numbered number (say ∷ more) = say number ++ numbered (number + 1) more
 
-messages-told : (xs : List (List ℕ)) (number : ℕ) → messagesOf number xs ≡ numbered number (map (λ line k. messageOf k line (readLine line)) xs)
+messages-told : (xs : List (List ℕ)) (number : ℕ)
+    → messagesOf number xs ≡ numbered number (map (λ line k. messageOf k line (readLine line)) xs)
 unfolding messagesOf numbered
 messages-told [] number = refl
 messages-told (x ∷ xs) number = rw (messages-told xs (number + 1))
@@ -123,24 +130,28 @@ messages-told (x ∷ xs) number = rw (messages-told xs (number + 1))
 pub requests-parts : (a b : List (List ℕ)) → requestsOf (a ++ b) ≡ requestsOf a ++ requestsOf b
 unfolding requestsOf
 requests-parts [] b = refl
-requests-parts (x ∷ a) b = rw (requests-parts a b) (sym (append-assoc (requestOf (readLine x)) (requestsOf a) (requestsOf b)))
+requests-parts (x ∷ a) b = rw (requests-parts a b, append-assoc)
 
-pub messages-parts : (a b : List (List ℕ)) (number : ℕ) → messagesOf number (a ++ b) ≡ messagesOf number a ++ messagesOf (number + length a) b
+pub messages-parts : (a b : List (List ℕ)) (number : ℕ)
+    → messagesOf number (a ++ b) ≡ messagesOf number a ++ messagesOf (number + length a) b
 unfolding messagesOf
 messages-parts [] b number =
     let none : number + 0 ≡ number = omega arith in
     rw none
 messages-parts (x ∷ a) b number =
     let more : number + 1 + length a ≡ number + length (x ∷ a) = omega arith in
-    rw (messages-parts a b (number + 1), more) (sym (append-assoc (messageOf number x (readLine x)) (messagesOf (number + 1) a) (messagesOf (number + length (x ∷ a)) b)))
+    rw (messages-parts a b (number + 1), more) (simp append-assoc)
 
 -- however an input is cut, its requests and messages are those of the whole
 module _ (pieces : List (List ℕ)) where
   pub requests-however-cut : requestsOf (linesIn [] pieces) ≡ requestsOf (lines (whole pieces))
   requests-however-cut =
-      requests-told (linesIn [] pieces) ∙ ap whole (told-however-cut (λ line read. requestOf read) (λ a b. refl) pieces) ∙ sym (requests-told (lines (whole pieces)))
+      requests-told (linesIn [] pieces)
+      ∙ ap whole (told-however-cut (λ line read. requestOf read) (λ a b. refl) pieces)
+      ∙ sym (requests-told (lines (whole pieces)))
 
-  pub messages-however-cut : (number : ℕ) → messagesOf number (linesIn [] pieces) ≡ messagesOf number (lines (whole pieces))
+  pub messages-however-cut : (number : ℕ)
+      → messagesOf number (linesIn [] pieces) ≡ messagesOf number (lines (whole pieces))
   unfolding foundIn
   messages-however-cut number =
       messages-told (linesIn [] pieces) number

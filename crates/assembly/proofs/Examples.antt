@@ -9,6 +9,7 @@ use Rattle.line.specs.Text.{bytes, isBlank, nextWord, trimmedEnd}
 use Rattle.line.specs.Number.{more, withDigits, number}
 use Rattle.line.specs.Line.{names, operationOf, request, counted, operands, statement, readText}
 use Rattle.assembly.specs.Batch.{linesFrom, restFrom, lines, rest, messagesOf}
+use Rattle.assembly.specs.Pieces.{whole}
 use Rattle.assembly.specs.Message.{shownByte, shown, found, said, expectedOf, foundIn, expectedRoom, foundRoom}
 use Rattle.decimal.specs.Decimal.{decimalIn}
 
@@ -21,9 +22,17 @@ unfolding bytes restFrom
 unfinished-line = refl
 
 -- a message for each kind of bad line
-bad-lines-named : messagesOf 9 (map bytes ("place 5" ∷ "placed 5" ∷ "text # 5" ∷ "free\t4294967296\r" ∷ "copy 1 two" ∷ []))
-    ≡ bytes "line 10: expected place, free, measure, copy, text or counted, found \"placed\"\nline 11: expected a number from 0 to 4294967295, found the end of the line\nline 12: expected a number from 0 to 4294967295, found \"4294967296\"\nline 13: expected nothing after the numbers, found \"two\"\n"
-unfolding bytes first alike indexOf indexAfter isBlank nextWord trimmedEnd more withDigits number names operationOf request counted operands statement readText messagesOf expectedOf foundIn found shown shownByte said decimalIn
+bad-lines-named : messagesOf 9
+    (map bytes ("place 5" ∷ "placed 5" ∷ "text # 5" ∷ "free\t4294967296\r" ∷ "copy 1 two" ∷ []))
+    ≡ whole
+    (map bytes
+    ("line 10: expected place, free, measure, copy, text or counted, found \"placed\"\n"
+    ∷ "line 11: expected a number from 0 to 4294967295, found the end of the line\n"
+    ∷ "line 12: expected a number from 0 to 4294967295, found \"4294967296\"\n"
+    ∷ "line 13: expected nothing after the numbers, found \"two\"\n"
+    ∷ []))
+unfolding bytes first alike indexOf indexAfter isBlank nextWord trimmedEnd more withDigits number names operationOf
+    request counted operands statement readText messagesOf expectedOf foundIn found shown shownByte said decimalIn whole
 bad-lines-named = refl
 
 long-line-named : messagesOf 1 (replicate 256 32 ∷ []) ≡ bytes "line 1: expected at most 255 bytes, found more\n"
@@ -31,8 +40,15 @@ unfolding bytes trimmedEnd readText messagesOf expectedOf foundIn said decimalIn
 long-line-named = refl
 
 -- 24 bytes of a word are shown; a longer one has dots, and a byte that is not printable is a question mark
-words-shown : map (λ w. found (bytes w)) ("abcdefghijklmnopqrstuvwx" ∷ "abcdefghijklmnopqrstuvwxy" ∷ "a\rb\u{1b}c" ∷ "!aÿ~" ∷ "a\u{7f}b" ∷ [])
-    ≡ map bytes ("\"abcdefghijklmnopqrstuvwx\"\n" ∷ "\"abcdefghijklmnopqrstuvwx\"...\n" ∷ "\"a?b?c\"\n" ∷ "\"!a?~\"\n" ∷ "\"a?b\"\n" ∷ [])
+words-shown : map (λ w. found (bytes w))
+    ("abcdefghijklmnopqrstuvwx" ∷ "abcdefghijklmnopqrstuvwxy" ∷ "a\rb\u{1b}c" ∷ "!aÿ~" ∷ "a\u{7f}b" ∷ [])
+    ≡ map bytes
+    ("\"abcdefghijklmnopqrstuvwx\"\n"
+    ∷ "\"abcdefghijklmnopqrstuvwx\"...\n"
+    ∷ "\"a?b?c\"\n"
+    ∷ "\"!a?~\"\n"
+    ∷ "\"a?b\"\n"
+    ∷ [])
 unfolding bytes found shown shownByte
 words-shown = refl
 

@@ -1,7 +1,7 @@
 -- A text split at its line ends.
 use Prim.Native.Nat.{ℕ, suc, _+_, _-_, _≤_, _<_}
 use native.Mathlib.Omega.{arith}
-use mathlib.Core.Path.{_≡_, refl, sym, _∙_}
+use mathlib.Core.Path.{_≡_, refl}
 use mathlib.Core.Bool.{Bool, true, false}
 use mathlib.Core.List.{List, [], _∷_, _++_, append-assoc, append-nil}
 use lib.ListN.{length, take, drop, length-drop}
@@ -45,7 +45,8 @@ split-rest (byte e s) = rw (e, restFrom) (split-rest s)
 
 -- what the first line end says
 record First (line text : List ℕ) (k : ℕ) : Type 0 where
-  some : k < length text → Splits line text ((line ++ take k text) ∷ lines (drop (suc k) text)) (rest (drop (suc k) text))
+  some : k < length text → let after = drop (suc k) text in
+      Splits line text ((line ++ take k text) ∷ lines after) (rest after)
   last : length text ≤ k → Splits line text [] (line ++ text)
 
 first-end : (text line : List ℕ) → First line text (indexOf newline text)
@@ -55,11 +56,17 @@ first-end (b ∷ text) line = go (first-end text (line ++ (b ∷ []))) (eqb b ne
   where
     go : First (line ++ (b ∷ [])) text (indexOf newline text) → (t : Bool) → eqb b newline ≡ t
         → First line (b ∷ text) (indexOf newline (b ∷ text))
-    go more true e = rw e record { some = λ h. rw append-nil (end e (splits text [])); last = λ h. absurd (omega arith) }
-    go more false e =
+    go more true e =
         rw e
         record {
-          some = λ h. rw (← append-assoc line (b ∷ []) (take (indexOf newline text) text)) (byte e (more .some (omega arith)));
+          some = λ h. rw append-nil (end e (splits text []));
+          last = λ h. absurd (omega arith);
+        }
+    go more false e =
+        let start = take (indexOf newline text) text in
+        rw e
+        record {
+          some = λ h. rw (← append-assoc line (b ∷ []) start) (byte e (more .some (omega arith)));
           last = λ h. rw (← append-assoc line (b ∷ []) text) (byte e (more .last (omega arith)));
         }
 

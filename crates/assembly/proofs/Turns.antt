@@ -14,7 +14,8 @@ use Rattle.assembly.specs.Pieces.{startOf}
 use Rattle.assembly.specs.Turn.{gathered, textEnd, textIn, outcome}
 
 module _ (input : List ℕ) (kept got : ℕ) where
-  pub text-read : (got ≡ 0 → ⊥) → kept + got ≤ length input → textIn input kept got ≡ take kept input ++ take got (drop kept input)
+  pub text-read : (got ≡ 0 → ⊥) → kept + got ≤ length input
+      → textIn input kept got ≡ take kept input ++ take got (drop kept input)
   unfolding gathered textEnd
   text-read some h =
       let all : min (length input) (kept + got) ≡ kept + got = omega arith in
@@ -27,7 +28,9 @@ module _ (input : List ℕ) (kept got : ℕ) where
       let one : min (length input) (kept + 1) ≡ kept + 1 = omega arith in
       rw (one, add-one) (take-suc-set input kept newline h)
 
-  pub start-first : (number : ℕ) (out errors : List ℕ) → fits (length (textIn input kept got)) number (length out) (length errors) ≡ true
-      → take (outcome input kept got number out errors .turn .kept) (outcome input kept got number out errors .input) ≡ startOf (textIn input kept got)
+  pub start-first : (number : ℕ) (out errors : List ℕ)
+      → fits (length (textIn input kept got)) number (length out) (length errors) ≡ true
+      → let o = outcome input kept got number out errors in
+      take (o .turn .kept) (o .input) ≡ startOf (textIn input kept got)
   unfolding outcome admitted
   start-first number out errors room = rw room (take-append-seam (startOf (textIn input kept got)) _)

@@ -6,7 +6,6 @@ use lib.ListN.{length, take}
 use lib.Dec.{leb, eqb}
 use Rattle.decimal.specs.Decimal.{width, decimal}
 use Rattle.line.specs.Text.{bytes, wordAt}
-use Rattle.line.specs.declared.Word.{Word}
 use Rattle.line.specs.declared.Line.{Line}
 use Rattle.line.specs.declared.Line.the-variants.{Request, Nothing, BadOperation, BadNumber, TrailingText, TooLong}
 
@@ -36,7 +35,8 @@ said number text = bytes "line " ++ (decimal number ++ text)
 unfoldable pub expectedOf : ℕ → Line → List ℕ
 expectedOf number (Request operation argument count) = []
 expectedOf number Nothing = []
-expectedOf number (BadOperation w) = said number (bytes ": expected place, free, measure, copy, text or counted, found ")
+expectedOf number (BadOperation w) =
+    said number (bytes ": expected place, free, measure, copy, text or counted, found ")
 expectedOf number (BadNumber w) = said number (bytes ": expected a number from 0 to 4294967295, found ")
 expectedOf number (TrailingText w) = said number (bytes ": expected nothing after the numbers, found ")
 expectedOf number TooLong = said number (bytes ": expected at most 255 bytes, found more\n")

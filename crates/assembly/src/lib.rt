@@ -4,9 +4,9 @@ mod output;
 ghost use mathlib.Core.Path.{_≡_};
 ghost use mathlib.Core.Bool.{true};
 ghost use Prim.Native.Nat.{_-_, _≤_, min};
-ghost use lib.ListN.{length};
+ghost use lib.ListN.{length, drop};
 ghost use Rattle.writing.specs.Overwrite.{overwrite};
-ghost use Rattle.assembly.specs.Batch.{requestsIn, messagesIn, doneOf, fits};
+ghost use Rattle.assembly.specs.Batch.{rest, requestsIn, messagesIn, doneOf, fits};
 ghost use Rattle.assembly.specs.Pieces.{longestStart};
 ghost use Rattle.assembly.specs.Turn.{gathered, textEnd, outcome};
 
@@ -62,6 +62,7 @@ fn fits(len: usize, number: u64, out: usize, errors: usize) -> bool
 fn assemble_lines(input: &[u8], number: u64, out: &mut [u8], errors: &mut [u8]) -> Done
     requires { ⌜ fits (length (now input)) number (length (now out)) (length (now errors)) ≡ true ⌝ }
     ensures { λ r. ⌜ (r ≡ doneOf number (now (input .entry))) × (r .used ≤ length (now (input .entry))) ⌝ }
+    ensures { λ r. ⌜ drop (r .used) (now (input .entry)) ≡ rest (now (input .entry)) ⌝ }
     ensures { λ r. ⌜ (r .requests ≤ length (now (out .exit))) × (r .messages ≤ length (now (errors .exit))) ⌝ }
     ensures { λ _. ⌜ now (out .exit) ≡ overwrite (now (out .entry)) 0 (requestsIn (now (input .entry))) ⌝ }
     ensures { λ _. ⌜ now (errors .exit) ≡ overwrite (now (errors .entry)) 0 (messagesIn number (now (input .entry))) ⌝ }

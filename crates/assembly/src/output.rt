@@ -45,7 +45,9 @@ fn shown_byte(byte: u8) -> u8
 fn put_shown(word: &[u8], out: &mut [u8], at: usize) -> usize
     requires { ⌜ at + shownMost ≤ length (now out) ⌝ }
     ensures { λ r. ⌜ r ≤ at + shownMost ⌝ }
-    ensures { λ r. ⌜ Put (now (out .entry)) at (map shownByte (take shownMost (now (word .entry)))) r (now (out .exit)) ⌝ }
+    ensures { λ r.
+        let text = map shownByte (take shownMost (now (word .entry))) in
+        ⌜ Put (now (out .entry)) at text r (now (out .exit)) ⌝ }
 {
     let count = least(SHOWN, word.len());
     let mut i: usize = 0;

@@ -60,7 +60,7 @@ returns c =
     let s = shifted .shift .ensures in
     let few = length-take (n .result) (drop (read .assemble-lines .result .used) (gathered .gather .last .0)) in (
       a-turn (a .input .now) (a .kept) (a .got) (a .number) (a .out .now) (a .errors .now) (gathered .gather .ensures)
-          (tested .before .fits2 .ensures) (tested .if1 .taken) (e .0 .0) (n .ensures) (s .0) (s .1) (e .1 .1 .0) (e .1 .1 .1),
+          (tested .before .fits2 .ensures) (tested .if1 .taken) (e .0) (e .1 .0) (n .ensures) s (e .1 .1 .1),
       ((omega arith, omega arith), omega arith),
     )
 

@@ -4,7 +4,7 @@ use mathlib.Core.Path.{refl}
 use native.Mathlib.Omega.{arith}
 use lib.ListN.{length}
 use Rattle.assembly.proofs.Assembled.{Assembled, filled-length, assembled-none, assembled-more}
-use Rattle.assembly.proofs.Assembled.{all-requests, all-messages, all-done}
+use Rattle.assembly.proofs.Assembled.{all-requests, all-messages, all-left, all-done}
 use Rattle.assembly.proofs.assemble_lines.Statement.{statement}
 use Rattle.assembly.proofs.assemble_lines.Tie as tie
 
@@ -60,7 +60,8 @@ loop-again c =
     let p = r .before .before .before .loop .inv in
     let (small, request) = q .put-request .ensures in
     let (short, message) = m .put-message .ensures in
-    assembled-more p (omega arith) refl (r .read .ensures) small request short message (c .find2 .ensures .0) (omega arith)
+    let next = c .find2 .ensures .0 in
+    assembled-more p (omega arith) refl (r .read .ensures) small request short message next (omega arith)
 
 same-length : tie.Need-same-length Inv-loop μ-loop
 same-length c = filled-length (c .before .loop .inv .requests)
@@ -73,7 +74,9 @@ returns c =
     let p = c .before .loop .inv in
     let a = c .before .before .before .before .before .before .args in
     let none : length (a .input .now) ≤ c .before .loop .end = omega arith in
-    ((all-done p none, omega arith), ((omega arith, omega arith), (all-requests p none .bytes, all-messages p none .bytes)))
+    let requests = all-requests p none .bytes in
+    let messages = all-messages p none .bytes in
+    ((all-done p none, omega arith), (all-left p none, ((omega arith, omega arith), (requests, messages))))
 
 pub assemble-lines-spec : {M : Type 1} → statement M
 assemble-lines-spec =
