@@ -2,29 +2,16 @@
 use Prim.Native.Nat.{ℕ, _+_, _≤_, _<_, min}
 use mathlib.Core.Path.{_≡_, sym, _∙_}
 use mathlib.Core.List.{List, [], _∷_, _++_, map, map-append}
-use native.Mathlib.Decide.{decLe}
 use native.Mathlib.Numerals.{add-one}
 use native.Mathlib.Omega.{arith}
 use borrow.Author.Tests.{le-leb, lt-leb, eq-eqb, ne-eqb}
 use lib.ListN.{length, take, getD, set, length-append, length-take, length-map, take-append-drop}
-use lib.Seq.{take-all, take-length, take-suc, take-take}
+use lib.Seq.{take-length, take-suc}
 use Rattle.line.specs.Text.{bytes}
+use Rattle.line.proofs.Reading.{take-min}
 use Rattle.writing.proofs.Writing.{Wrote, overwrite-length, wrote-then, wrote-byte, wrote-length}
 use Rattle.assembly.specs.Put.{Put}
 use Rattle.assembly.specs.Message.{shownMost, shownByte, shown, found}
-
--- the start of a list, cut twice
-pub take-min : (a b : ℕ) (xs : List ℕ) {n : ℕ} → n ≡ min a b → take n xs ≡ take a (take b xs)
-take-min a b xs {n} e = go (decLe a b)
-  where
-    go : Dec (a ≤ b) → take n xs ≡ take a (take b xs)
-    go (yes h) =
-        let m : n ≡ a = omega arith in
-        rw (m, take-take a b xs h)
-    go (no h) =
-        let m : n ≡ b = omega arith in
-        let size : length (take b xs) ≤ a = rw length-take (omega arith) in
-        rw (m, take-all a (take b xs) size)
 
 -- texts put one after another
 pub two-put : {xs mid out ys zs : List ℕ} {at p r : ℕ} → Put xs at ys p mid → Put mid p zs r out

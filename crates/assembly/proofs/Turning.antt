@@ -8,13 +8,13 @@ use native.Mathlib.Omega.{arith}
 use lib.ListN.{length, take, drop}
 use lib.Seq.{drop-at, length-take-le, take-add}
 use Rattle.writing.specs.Overwrite.{overwrite}
+use Rattle.line.proofs.Reading.{take-min}
 use Rattle.assembly.specs.Batch.{linesFrom, restFrom, rest, requestsOf, messagesOf}
 use Rattle.assembly.specs.Batch.{requestsIn, messagesIn, doneOf, fits, admitted}
 use Rattle.assembly.specs.Pieces.{longestStart}
 use Rattle.assembly.specs.Turn.{textIn, Outcome, outcome}
 use Rattle.assembly.specs.declared.Done.{Done}
 use Rattle.assembly.proofs.Gathering.{Gathers}
-use Rattle.assembly.proofs.Putting.{take-min}
 
 drop-take : (a n : ℕ) (xs : List ℕ) → a ≤ length xs → drop a (take (a + n) xs) ≡ take n (drop a xs)
 drop-take a n xs h = rw take-add (drop-at (take a xs) (take n (drop a xs)) a (length-take-le a xs h))

@@ -36,7 +36,8 @@ module _ (word : List ℕ) where
 
   module _ (n i : ℕ) (read : withDigits 0 word ≡ withDigits n (drop i word)) where
     -- a digit more
-    pub digits-more : {next : ℕ} → i < length word → next ≡ more n (getD word i 0) → withDigits 0 word ≡ withDigits next (drop (i + 1) word)
+    pub digits-more : {next : ℕ} → i < length word → next ≡ more n (getD word i 0)
+        → withDigits 0 word ≡ withDigits next (drop (i + 1) word)
     unfolding withDigits
     digits-more h e = read ∙ rw (add-one, drop-cons word i 0 h, e, withDigits)
 

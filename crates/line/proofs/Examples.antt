@@ -9,18 +9,22 @@ use Rattle.line.specs.Number.{more, withDigits, number}
 use Rattle.line.specs.Line.{names, operationOf, request, counted, operands, statement, readText, readLine}
 use Rattle.line.specs.declared.Line.the-variants.{Request, Nothing, BadOperation, BadNumber, TrailingText}
 
-good-lines : map (λ t. readLine (bytes t)) ("place 5" ∷ "  counted 3  40 # and more" ∷ "free 4294967295" ∷ "   # place 5" ∷ [])
+good-lines : map (λ t. readLine (bytes t))
+    ("place 5" ∷ "  counted 3  40 # and more" ∷ "free 4294967295" ∷ "   # place 5" ∷ [])
     ≡ Request 0 5 0 ∷ Request 5 3 40 ∷ Request 1 4294967295 0 ∷ Nothing ∷ []
-unfolding bytes first alike indexOf indexAfter isBlank nextWord trimmedEnd more withDigits number names operationOf request counted operands statement readText
+unfolding bytes first alike indexOf indexAfter isBlank nextWord trimmedEnd more withDigits number names operationOf
+    request counted operands statement readText
 good-lines = refl
 
 tabs-and-returns : map (λ t. readLine (bytes t)) ("\tplace\t5 \t\r" ∷ "\r" ∷ "free 640\r" ∷ "free 640 # no part\r" ∷ [])
     ≡ Request 0 5 0 ∷ Nothing ∷ Request 1 640 0 ∷ Request 1 640 0 ∷ []
-unfolding bytes first alike indexOf indexAfter isBlank nextWord trimmedEnd more withDigits number names operationOf request counted operands statement readText
+unfolding bytes first alike indexOf indexAfter isBlank nextWord trimmedEnd more withDigits number names operationOf
+    request counted operands statement readText
 tabs-and-returns = refl
 
 -- a carriage return elsewhere is a byte like others; of two numbers the first bad one is found
-bad-lines : map (λ t. readLine (bytes t)) (" placed 5" ∷ "free 4294967296" ∷ "text # 5" ∷ "copy 1 2 3" ∷ "counted 6a 6b" ∷ "counted 3 x" ∷ "free 5\r\r" ∷ [])
+bad-lines : map (λ t. readLine (bytes t))
+    (" placed 5" ∷ "free 4294967296" ∷ "text # 5" ∷ "copy 1 2 3" ∷ "counted 6a 6b" ∷ "counted 3 x" ∷ "free 5\r\r" ∷ [])
     ≡ BadOperation (record { start = 1; end = 7 })
     ∷ BadNumber (record { start = 5; end = 15 })
     ∷ BadNumber (record { start = 5; end = 5 })
@@ -29,5 +33,6 @@ bad-lines : map (λ t. readLine (bytes t)) (" placed 5" ∷ "free 4294967296" �
     ∷ BadNumber (record { start = 10; end = 11 })
     ∷ BadNumber (record { start = 5; end = 7 })
     ∷ []
-unfolding bytes first alike indexOf indexAfter isBlank nextWord trimmedEnd more withDigits number names operationOf request counted operands statement readText
+unfolding bytes first alike indexOf indexAfter isBlank nextWord trimmedEnd more withDigits number names operationOf
+    request counted operands statement readText
 bad-lines = refl

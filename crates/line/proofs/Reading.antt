@@ -1,21 +1,23 @@
 -- What each way through the reader comes to.
 use Prim.Native.Nat.{ℕ, _+_, _-_, _≤_, _<_, min}
-use mathlib.Core.Path.{_≡_, refl}
+use mathlib.Core.Path.{_≡_, refl, _∙_}
 use mathlib.Core.Bool.{Bool, true, false}
 use mathlib.Core.List.{List, [], _∷_, _++_}
 use native.Mathlib.Nat.{sub-zero}
 use native.Mathlib.Decide.{decLt, decLe}
 use native.Mathlib.Omega.{arith}
 use borrow.Author.Tests.{lt-ltb, le-ltb, eq-eqb, ne-eqb}
-use lib.ListN.{length, take, drop, getD, length-append, length-take, length-drop, drop-of-length-le}
-use lib.Seq.{take-nil, take-all, take-length, take-append-seam, getD-append-seam}
+use lib.ListN.{length, take, drop, getD, length-append, length-take, length-drop}
+use lib.Seq.{take-all, take-length, take-take, take-append-seam, getD-append-seam}
 use lib.Dec.{eqb}
 use Rattle.bytes.specs.Bytes.{slice, indexOf}
 use Rattle.line.specs.Text.{nextWord, wordAt, carriageReturn, trimmedEnd, trimmed}
 use Rattle.line.specs.Number.{limit, number}
-use Rattle.line.specs.Line.{operationOf, request, counted, operands, statement, hash, longestLine, readText, readLine}
+use Rattle.line.specs.Line.{operationOf, request, counted, operands, statement}
+use Rattle.line.specs.Line.{hash, longestLine, readText, readLine}
 use Rattle.line.specs.declared.Word.{Word}
-use Rattle.line.specs.declared.Line.the-variants.{Request, Nothing, BadOperation, BadNumber, TrailingText, TooLong}
+use Rattle.line.specs.declared.Line.the-variants.{Request, Nothing, BadOperation, BadNumber}
+use Rattle.line.specs.declared.Line.the-variants.{TrailingText, TooLong}
 
 module _ (text : List ℕ) (a : ℕ) {w : Word} (next : w ≡ nextWord text a) where
   module _ (operation argument count : ℕ) where
@@ -27,41 +29,42 @@ module _ (text : List ℕ) (a : ℕ) {w : Word} (next : w ≡ nextWord text a) w
     unfolding request
     none-left h = rw (← next, eq-eqb (w .start) (length text) h)
 
-  module _ {n : ℕ} (read : n ≡ number (wordAt text w)) where
+  module _ {word : List ℕ} (found : word ≡ wordAt text w) {n : ℕ} (read : n ≡ number word) where
     pub bad-count : (argument : ℕ) → limit ≤ n → BadNumber w ≡ counted text a argument
     unfolding counted
-    bad-count argument h = rw (← next, ← read, le-ltb n limit h)
+    bad-count argument h = rw (← next, ← found, ← read, le-ltb n limit h)
 
     pub a-count : (argument : ℕ) → n < limit → request text (w .end) 5 argument n ≡ counted text a argument
     unfolding counted
-    a-count argument h = rw (← next, ← read, lt-ltb n limit h)
+    a-count argument h = rw (← next, ← found, ← read, lt-ltb n limit h)
 
     module _ (operation : ℕ) where
       pub bad-argument : limit ≤ n → BadNumber w ≡ operands text a operation
       unfolding operands
-      bad-argument h = rw (← next, ← read, le-ltb n limit h)
+      bad-argument h = rw (← next, ← found, ← read, le-ltb n limit h)
 
       pub two-numbers : n < limit → operation ≡ 5 → counted text (w .end) n ≡ operands text a operation
       unfolding operands
-      two-numbers h e = rw (← next, ← read, lt-ltb n limit h, eq-eqb operation 5 e)
+      two-numbers h e = rw (← next, ← found, ← read, lt-ltb n limit h, eq-eqb operation 5 e)
 
       pub one-number : n < limit → (operation ≡ 5 → ⊥) → request text (w .end) operation n 0 ≡ operands text a operation
       unfolding operands
-      one-number h e = rw (← next, ← read, lt-ltb n limit h, ne-eqb operation 5 e)
+      one-number h e = rw (← next, ← found, ← read, lt-ltb n limit h, ne-eqb operation 5 e)
 
 module _ (text : List ℕ) {w : Word} (next : w ≡ nextWord text 0) where
   pub no-word : w .start ≡ length text → Nothing ≡ statement text
   unfolding statement
   no-word h = rw (← next, eq-eqb (w .start) (length text) h)
 
-  module _ (some : w .start ≡ length text → ⊥) {operation : ℕ} (named : operation ≡ operationOf (wordAt text w)) where
+  module _ (some : w .start ≡ length text → ⊥) {word : List ℕ} (found : word ≡ wordAt text w)
+      {operation : ℕ} (named : operation ≡ operationOf word) where
     pub no-operation : operation ≡ 6 → BadOperation w ≡ statement text
     unfolding statement
-    no-operation h = rw (← next, ne-eqb (w .start) (length text) some, ← named, eq-eqb operation 6 h)
+    no-operation h = rw (← next, ne-eqb (w .start) (length text) some, ← found, ← named, eq-eqb operation 6 h)
 
     pub an-operation : (operation ≡ 6 → ⊥) → operands text (w .end) operation ≡ statement text
     unfolding statement
-    an-operation h = rw (← next, ne-eqb (w .start) (length text) some, ← named, ne-eqb operation 6 h)
+    an-operation h = rw (← next, ne-eqb (w .start) (length text) some, ← found, ← named, ne-eqb operation 6 h)
 
 module _ (line : List ℕ) where
   pub long-text : longestLine < length line → TooLong ≡ readText line
@@ -98,29 +101,35 @@ return-ignored line h =
     let last : getD long (length long - 1) 0 ≡ carriageReturn = rw size (getD-append-seam line carriageReturn [] 0) in
     rw (← return-last long last, size, take-append-seam, ← other-last line h, take-length)
 
--- a word is what of it lies in the text
-pub word-within : (text : List ℕ) (w : Word) {start end : ℕ} → end ≡ min (w .end) (length text) → start ≡ min (w .start) end
-    → take (end - start) (drop start text) ≡ wordAt text w
-word-within text w {start} {end} e f = go (decLt (w .start) end) (decLe (w .end) (length text))
+-- the start of a list, cut twice
+pub take-min : (a b : ℕ) (xs : List ℕ) {n : ℕ} → n ≡ min a b → take n xs ≡ take a (take b xs)
+take-min a b xs {n} e = go (decLe a b)
   where
-    go : Dec (w .start < end) → Dec (w .end ≤ length text) → take (end - start) (drop start text) ≡ wordAt text w
-    go (yes h) (yes l) =
+    go : Dec (a ≤ b) → take n xs ≡ take a (take b xs)
+    go (yes h) =
+        let m : n ≡ a = omega arith in
+        rw (m, take-take a b xs h)
+    go (no h) =
+        let m : n ≡ b = omega arith in
+        let size : length (take b xs) ≤ a = rw length-take (omega arith) in
+        rw (m, take-all a (take b xs) size)
+
+-- a word is what of it lies in the text
+pub word-within : (text : List ℕ) (w : Word) {start end : ℕ} → end ≡ min (w .end) (length text)
+    → start ≡ min (w .start) end → take (end - start) (drop start text) ≡ wordAt text w
+word-within text w {start} {end} e f =
+    let rest : List ℕ = drop (w .start) text in
+    let size : length rest ≡ length text - w .start = length-drop (w .start) text in
+    let within : end - start ≡ min (w .end - w .start) (length rest) = omega arith in
+    go (decLt (w .start) end) ∙ take-min (w .end - w .start) (length rest) rest within ∙ rw take-length
+  where
+    go : Dec (w .start < end) → take (end - start) (drop start text) ≡ take (end - start) (drop (w .start) text)
+    go (yes h) =
         let s : start ≡ w .start = omega arith in
-        let t : end ≡ w .end = omega arith in
-        rw (s, t)
-    go (yes h) (no l) =
-        let s : start ≡ w .start = omega arith in
-        let t : end ≡ length text = omega arith in
-        let size : length (drop (w .start) text) ≡ length text - w .start = length-drop (w .start) text in
-        let rest : List ℕ = drop (w .start) text in
-        rw (s, t, take-all (length text - w .start) rest (omega arith), take-all (w .end - w .start) rest (omega arith))
-    go (no h) (yes l) =
+        rw s
+    go (no h) =
         let s : end - start ≡ 0 = omega arith in
-        let t : w .end - w .start ≡ 0 = omega arith in
-        rw (s, t)
-    go (no h) (no l) =
-        let s : end - start ≡ 0 = omega arith in
-        rw (s, drop-of-length-le text {i = w .start} (omega arith), take-nil)
+        rw s
 
 -- a line that has more bytes than a line and a carriage return may have is too long
 pub long-line : (line : List ℕ) → longestLine + 1 < length line → TooLong ≡ readLine line

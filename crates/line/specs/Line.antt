@@ -12,7 +12,8 @@ use Rattle.line.specs.Text.{bytes, nextWord, wordAt, trimmed}
 use Rattle.line.specs.Number.{limit, number}
 use Rattle.line.specs.declared.Word.{Word}
 use Rattle.line.specs.declared.Line.{Line}
-use Rattle.line.specs.declared.Line.the-variants.{Request, Nothing, BadOperation, BadNumber, TrailingText, TooLong}
+use Rattle.line.specs.declared.Line.the-variants.{Request, Nothing, BadOperation, BadNumber}
+use Rattle.line.specs.declared.Line.the-variants.{TrailingText, TooLong}
 
 -- the operations in the order of their numbers
 unfoldable pub names : List (List ℕ)

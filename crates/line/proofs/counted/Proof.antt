@@ -1,7 +1,6 @@
 -- `counted` reads the second number, or answers the word in its place.
-use mathlib.Core.Path.{ap, _∙_}
+use mathlib.Core.Path.{_∙_}
 use native.Mathlib.Omega.{arith}
-use Rattle.line.specs.Number.{number}
 use Rattle.line.proofs.Reading.{bad-count, a-count}
 use borrow.Author.Needs.{needs}
 use Rattle.line.proofs.counted.Statement.{statement}
@@ -18,10 +17,8 @@ of-requires c κs = search needs
 
 returns : tie.Need-returns
 returns c =
-    let b = c .before in
-    let word = b .before .before .next .ensures .0 in
-    let read = b .of .ensures ∙ ap number (b .before .word-bytes .ensures) in
-    bad-count _ _ word read _ (c .if1 .taken)
+    let b = c .before .before in
+    bad-count _ _ (b .before .next .ensures .0) (b .word-bytes .ensures) (c .before .of .ensures) _ (c .if1 .taken)
 
 request-requires : tie.Need-request-requires
 request-requires c κs = search needs
@@ -29,9 +26,9 @@ request-requires c κs = search needs
 returns-2 : tie.Need-returns-2
 returns-2 c =
     let b = c .before .before in
-    let word = b .before .before .next .ensures .0 in
-    let read = b .of .ensures ∙ ap number (b .before .word-bytes .ensures) in
-    c .request .ensures ∙ a-count _ _ word read _ (omega arith)
+    let f = b .before in
+    c .request .ensures
+    ∙ a-count _ _ (f .before .next .ensures .0) (f .word-bytes .ensures) (b .of .ensures) _ (omega arith)
 
 pub counted-spec : {M : Type 1} → statement M
 counted-spec =

@@ -1,7 +1,6 @@
 -- `operands` reads one number or two, or answers the word in their place.
-use mathlib.Core.Path.{ap, _∙_}
+use mathlib.Core.Path.{_∙_}
 use native.Mathlib.Omega.{arith}
-use Rattle.line.specs.Number.{number}
 use Rattle.line.proofs.Reading.{bad-argument, two-numbers, one-number}
 use borrow.Author.Needs.{needs}
 use Rattle.line.proofs.operands.Statement.{statement}
@@ -18,10 +17,8 @@ of-requires c κs = search needs
 
 returns : tie.Need-returns
 returns c =
-    let b = c .before in
-    let word = b .before .before .next .ensures .0 in
-    let read = b .of .ensures ∙ ap number (b .before .word-bytes .ensures) in
-    bad-argument _ _ word read _ (c .if1 .taken)
+    let b = c .before .before in
+    bad-argument _ _ (b .before .next .ensures .0) (b .word-bytes .ensures) (c .before .of .ensures) _ (c .if1 .taken)
 
 counted-requires : tie.Need-counted-requires
 counted-requires c κs = search needs
@@ -29,10 +26,9 @@ counted-requires c κs = search needs
 returns-2 : tie.Need-returns-2
 returns-2 c =
     let b = c .before .before .before in
-    let word = b .before .before .next .ensures .0 in
-    let read = b .of .ensures ∙ ap number (b .before .word-bytes .ensures) in
-    c .counted .ensures
-    ∙ two-numbers _ _ word read _ (omega arith) (c .before .if2 .taken)
+    let f = b .before in
+    let numbers = two-numbers _ _ (f .before .next .ensures .0) (f .word-bytes .ensures) (b .of .ensures) _ in
+    c .counted .ensures ∙ numbers (omega arith) (c .before .if2 .taken)
 
 request-requires : tie.Need-request-requires
 request-requires c κs = search needs
@@ -40,10 +36,9 @@ request-requires c κs = search needs
 returns-3 : tie.Need-returns-3
 returns-3 c =
     let b = c .before .before .before in
-    let word = b .before .before .next .ensures .0 in
-    let read = b .of .ensures ∙ ap number (b .before .word-bytes .ensures) in
-    c .request .ensures
-    ∙ one-number _ _ word read _ (omega arith) (c .before .if2 .left)
+    let f = b .before in
+    let numbers = one-number _ _ (f .before .next .ensures .0) (f .word-bytes .ensures) (b .of .ensures) _ in
+    c .request .ensures ∙ numbers (omega arith) (c .before .if2 .left)
 
 pub operands-spec : {M : Type 1} → statement M
 operands-spec =

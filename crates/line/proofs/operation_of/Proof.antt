@@ -12,7 +12,8 @@ use Rattle.line.proofs.operation_of.Statement.{statement}
 use Rattle.line.proofs.operation_of.Tie as tie
 
 abbrev Inv-loop : tie.InvT-loop
-Inv-loop word operation₀ operation = (operation ≤ 6) × (operationOf word ≡ first (λ k. alike word (getD names k [])) operation (6 - operation))
+Inv-loop word operation₀ operation =
+    (operation ≤ 6) × (operationOf word ≡ first (λ k. alike word (getD names k [])) operation (6 - operation))
 
 abbrev μ-loop : tie.MeasureT-loop
 μ-loop word operation₀ operation = 6 - operation
@@ -25,7 +26,9 @@ is-name-requires : tie.Need-is-name-requires Inv-loop μ-loop
 is-name-requires c κs = omega arith
 
 returns : tie.Need-returns Inv-loop μ-loop
-returns c = sym (c .before .before .before .loop .inv .1 ∙ first-found _ (omega arith) (sym (c .before .is-name .ensures) ∙ c .if1 .taken))
+returns c =
+    let named = sym (c .before .is-name .ensures) ∙ c .if1 .taken in
+    sym (c .before .before .before .loop .inv .1 ∙ first-found _ (omega arith) named)
 
 add-operation : tie.Need-add-operation Inv-loop μ-loop
 add-operation c = omega arith
@@ -34,7 +37,9 @@ loop-less : tie.Need-loop-less Inv-loop μ-loop
 loop-less c = omega arith
 
 loop-again : tie.Need-loop-again Inv-loop μ-loop
-loop-again c = (omega arith, c .before .before .before .loop .inv .1 ∙ first-past _ (omega arith) (sym (c .before .is-name .ensures) ∙ c .if1 .left))
+loop-again c =
+    let other = sym (c .before .is-name .ensures) ∙ c .if1 .left in
+    (omega arith, c .before .before .before .loop .inv .1 ∙ first-past _ (omega arith) other)
 
 returns-2 : tie.Need-returns-2 Inv-loop μ-loop
 returns-2 c = sym (c .before .loop .inv .1 ∙ first-none _ (omega arith))

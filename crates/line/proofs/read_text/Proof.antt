@@ -24,7 +24,9 @@ statement-requires : tie.Need-statement-requires
 statement-requires c κs = search needs
 
 returns-2 : tie.Need-returns-2
-returns-2 c = c .statement .ensures ∙ short-text _ (c .before .before .before .if1 .left) (c .before .before .find .ensures .0)
+returns-2 c =
+    let f = c .before .before in
+    c .statement .ensures ∙ short-text _ (f .before .if1 .left) (f .find .ensures .0)
 
 pub read-text-spec : {M : Type 1} → statement M
 read-text-spec =

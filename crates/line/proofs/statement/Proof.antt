@@ -1,6 +1,5 @@
 -- `statement` answers nothing, an operation and its numbers, or the word in its place.
-use mathlib.Core.Path.{ap, _∙_}
-use Rattle.line.specs.Line.{operationOf}
+use mathlib.Core.Path.{_∙_}
 use Rattle.line.proofs.Reading.{no-word, no-operation, an-operation}
 use borrow.Author.Needs.{needs}
 use Rattle.line.proofs.statement.Statement.{statement}
@@ -20,21 +19,21 @@ operation-of-requires c κs = search needs
 
 returns-2 : tie.Need-returns-2
 returns-2 c =
-    let b = c .before in
-    let word = b .before .before .before .before .next .ensures .0 in
-    let named = b .operation-of .ensures ∙ ap operationOf (b .before .word-bytes .ensures) in
-    no-operation _ word (b .before .before .if1 .left) named (c .if2 .taken)
+    let w = c .before .before in
+    let b = w .before in
+    no-operation _ (b .before .before .next .ensures .0) (b .if1 .left) (w .word-bytes .ensures)
+    (c .before .operation-of .ensures) (c .if2 .taken)
 
 operands-requires : tie.Need-operands-requires
 operands-requires c κs = search needs
 
 returns-3 : tie.Need-returns-3
 returns-3 c =
-    let b = c .before .before in
-    let word = b .before .before .before .before .next .ensures .0 in
-    let named = b .operation-of .ensures ∙ ap operationOf (b .before .word-bytes .ensures) in
+    let w = c .before .before .before in
+    let b = w .before in
     c .operands .ensures
-    ∙ an-operation _ word (b .before .before .if1 .left) named (c .before .if2 .left)
+    ∙ an-operation _ (b .before .before .next .ensures .0) (b .if1 .left) (w .word-bytes .ensures)
+    (c .before .before .operation-of .ensures) (c .before .if2 .left)
 
 pub statement-spec : {M : Type 1} → statement M
 statement-spec =

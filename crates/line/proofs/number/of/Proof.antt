@@ -33,7 +33,9 @@ loop-less : tie.Need-loop-less Inv-loop μ-loop
 loop-less c = omega arith
 
 loop-again : tie.Need-loop-again Inv-loop μ-loop
-loop-again c = (omega arith, c .more .ensures .1, digits-more _ _ _ (c .before .before .before .loop .inv .2) (omega arith) (c .more .ensures .0))
+loop-again c =
+    let (next, small) = c .more .ensures in
+    (omega arith, small, digits-more _ _ _ (c .before .before .before .loop .inv .2) (omega arith) next)
 
 returns-2 : tie.Need-returns-2 Inv-loop μ-loop
 returns-2 c = digits-all _ _ (c .before .loop .i) (c .before .loop .inv .2) (c .before .before .if1 .left) (omega arith)

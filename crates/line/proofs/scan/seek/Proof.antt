@@ -26,7 +26,8 @@ is-blank-requires c κs = tt
 returns : tie.Need-returns Inv-loop μ-loop
 returns c =
     let l = c .before .before .before .before .loop in
-    (sym (l .inv .2 ∙ first-found _ (omega arith) (rw (sym (c .before .is-blank .ensures)) (c .if1 .taken))), omega arith)
+    let told = sym (c .before .is-blank .ensures) in
+    (sym (l .inv .2 ∙ first-found _ (omega arith) (rw told (c .if1 .taken))), omega arith)
 
 add-at : tie.Need-add-at Inv-loop μ-loop
 add-at c = omega arith
