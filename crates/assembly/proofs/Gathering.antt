@@ -1,5 +1,5 @@
 -- What a buffer holds after a read.
-use Prim.Native.Nat.{ℕ, _+_, _-_, _≤_, _<_}
+use Prim.Native.Nat.{ℕ, _+_, _-_, _≤_, _<_, min}
 use mathlib.Core.Path.{_≡_, refl}
 use mathlib.Core.Bool.{Bool, true, false}
 use mathlib.Core.List.{List}
@@ -28,11 +28,7 @@ module _ (input : List ℕ) (kept got : ℕ) where
   unfolding textEnd gathered
   input-ended h e = rw (eq-eqb got 0 e) ((omega arith, simp length-set (omega arith)), refl)
 
-  module _ (some : got ≡ 0 → ⊥) where
-    pub buffer-full : kept < length input → length input - kept ≤ got → Gathers (length input) input
-    unfolding textEnd gathered
-    buffer-full h l = rw (ne-eqb got 0 some) ((omega arith, omega arith), refl)
-
-    pub some-read : kept < length input → got < length input - kept → Gathers (kept + got) input
-    unfolding textEnd gathered
-    some-read h l = rw (ne-eqb got 0 some) ((omega arith, omega arith), refl)
+  pub some-read : {n : ℕ} → (got ≡ 0 → ⊥) → kept < length input → n ≡ min got (length input - kept)
+      → Gathers (kept + n) input
+  unfolding textEnd gathered
+  some-read some h e = rw (ne-eqb got 0 some) ((omega arith, omega arith), refl)

@@ -58,20 +58,17 @@ shown-all word out₀ out at i w e =
     record { place = simp (length-map, length-take) (omega arith); bytes = rw start at (w .bytes) }
 
 module _ (word : List ℕ) where
-  pub shown-whole : length word ≤ shownMost
-      → shown word ≡ bytes "\"" ++ (map shownByte (take shownMost word) ++ bytes "\"\n")
-  unfolding shown
-  shown-whole h = rw (le-leb (length word) shownMost h)
-
-  pub shown-start : shownMost < length word
-      → shown word ≡ bytes "\"" ++ (map shownByte (take shownMost word) ++ bytes "\"...\n")
-  unfolding shown
-  shown-start h = rw (lt-leb (length word) shownMost h)
-
   pub found-none : length word ≡ 0 → found word ≡ bytes "the end of the line\n"
   unfolding found
   found-none h = rw (eq-eqb (length word) 0 h)
 
-  pub found-word : (length word ≡ 0 → ⊥) → found word ≡ shown word
-  unfolding found
-  found-word h = rw (ne-eqb (length word) 0 h)
+  module _ (some : length word ≡ 0 → ⊥) where
+    pub found-whole : length word ≤ shownMost
+        → found word ≡ bytes "\"" ++ (map shownByte (take shownMost word) ++ bytes "\"\n")
+    unfolding found shown
+    found-whole h = rw (ne-eqb (length word) 0 some, le-leb (length word) shownMost h)
+
+    pub found-start : shownMost < length word
+        → found word ≡ bytes "\"" ++ (map shownByte (take shownMost word) ++ bytes "\"...\n")
+    unfolding found shown
+    found-start h = rw (ne-eqb (length word) 0 some, lt-leb (length word) shownMost h)

@@ -103,10 +103,7 @@ fn gather(input: &mut [u8], kept: usize, got: usize) -> usize
         input[kept] = NEWLINE;
         return kept + 1;
     }
-    if size - kept <= got {
-        return size;
-    }
-    kept + got
+    kept + least(got, size - kept)
 }
 
 // Reads the lines of an input at the front of which `kept` bytes were kept by the turn before and behind them `got`

@@ -8,7 +8,7 @@ ghost use lib.ListN.{length, take};
 ghost use Rattle.request.specs.Parse.{requestSize};
 ghost use Rattle.line.specs.Line.{requestOf};
 ghost use Rattle.assembly.specs.Put.{Put};
-ghost use Rattle.assembly.specs.Message.{shownMost, shownByte, shown, found, said, expectedOf, messageOf};
+ghost use Rattle.assembly.specs.Message.{shownMost, shownByte, found, said, expectedOf, messageOf};
 ghost use Rattle.assembly.specs.Message.{expectedRoom, foundRoom, messageRoom};
 
 // How many bytes of a word are shown.
@@ -58,20 +58,7 @@ fn put_shown(word: &[u8], out: &mut [u8], at: usize) -> usize
     at + i
 }
 
-// Writes the start of a word between quotes.
-fn put_word(word: &[u8], out: &mut [u8], at: usize) -> usize
-    requires { ⌜ at + foundRoom ≤ length (now out) ⌝ }
-    ensures { λ r. ⌜ r ≤ at + foundRoom ⌝ }
-    ensures { λ r. ⌜ Put (now (out .entry)) at (shown (now (word .entry))) r (now (out .exit)) ⌝ }
-{
-    let first = put(b"\"", out, at);
-    let second = put_shown(word, out, first);
-    if word.len() <= SHOWN {
-        return put(b"\"\n", out, second);
-    }
-    put(b"\"...\n", out, second)
-}
-
+// Writes the start of a word between quotes, or that the line has ended.
 fn put_found(word: &[u8], out: &mut [u8], at: usize) -> usize
     requires { ⌜ at + foundRoom ≤ length (now out) ⌝ }
     ensures { λ r. ⌜ r ≤ at + foundRoom ⌝ }
@@ -80,7 +67,12 @@ fn put_found(word: &[u8], out: &mut [u8], at: usize) -> usize
     if word.len() == 0 {
         return put(b"the end of the line\n", out, at);
     }
-    put_word(word, out, at)
+    let first = put(b"\"", out, at);
+    let second = put_shown(word, out, first);
+    if word.len() <= SHOWN {
+        return put(b"\"\n", out, second);
+    }
+    put(b"\"...\n", out, second)
 }
 
 // Names a line by its number, and says the text of it.

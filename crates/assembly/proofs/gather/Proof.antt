@@ -1,6 +1,6 @@
--- `gather` answers where the text of a buffer ends, in each of four cases.
+-- `gather` answers where the text of a buffer ends, in each of three cases.
 use native.Mathlib.Omega.{arith}
-use Rattle.assembly.proofs.Gathering.{nothing-free, input-ended, buffer-full, some-read}
+use Rattle.assembly.proofs.Gathering.{nothing-free, input-ended, some-read}
 use borrow.Author.Needs.{needs}
 use Rattle.assembly.proofs.gather.Statement.{statement}
 use Rattle.assembly.proofs.gather.Tie as tie
@@ -20,17 +20,17 @@ same-length c = search needs
 returns-2 : tie.Need-returns-2
 returns-2 c = input-ended _ _ _ (omega arith) (c .if2 .taken)
 
-sub-if3 : tie.Need-sub-if3
-sub-if3 c = search needs
+sub-least : tie.Need-sub-least
+sub-least c = search needs
 
-returns-3 : tie.Need-returns-3
-returns-3 c = buffer-full _ _ _ (c .before .if2 .left) (omega arith) (c .if3 .taken)
+least-requires : tie.Need-least-requires
+least-requires c κs = search needs
 
 add-result-2 : tie.Need-add-result-2
 add-result-2 c = search needs
 
-returns-4 : tie.Need-returns-4
-returns-4 c = some-read _ _ _ (c .before .if2 .left) (omega arith) (omega arith)
+returns-3 : tie.Need-returns-3
+returns-3 c = some-read _ _ _ (c .before .if2 .left) (omega arith) (c .least .ensures)
 
 pub gather-spec : {M : Type 1} → statement M
 gather-spec =
@@ -41,7 +41,7 @@ gather-spec =
     add-result
     same-length
     returns-2
-    sub-if3
-    returns-3
+    sub-least
+    least-requires
     add-result-2
-    returns-4)
+    returns-3)
