@@ -1,4 +1,4 @@
--- What each way through the reader comes to.
+-- A line cut at its comment and its end, and a word cut where the text ends.
 use Prim.Native.Nat.{ℕ, _+_, _-_, _≤_, _<_, min}
 use mathlib.Core.Path.{_≡_, refl, _∙_}
 use mathlib.Core.Bool.{Bool, true, false}
@@ -11,60 +11,10 @@ use lib.ListN.{length, take, drop, getD, length-append, length-take, length-drop
 use lib.Seq.{take-all, take-length, take-take, take-append-seam, getD-append-seam}
 use lib.Dec.{eqb}
 use Rattle.bytes.specs.Bytes.{slice, indexOf}
-use Rattle.line.specs.Text.{nextWord, wordAt, carriageReturn, trimmedEnd, trimmed}
-use Rattle.line.specs.Number.{limit, number}
-use Rattle.line.specs.Line.{operationOf, request, counted, operands, statement}
-use Rattle.line.specs.Line.{hash, longestLine, readText, readLine}
+use Rattle.line.specs.Text.{wordAt, carriageReturn, trimmedEnd, trimmed}
+use Rattle.line.specs.Line.{statement, hash, longestLine, readText, readLine}
 use Rattle.line.specs.declared.Word.{Word}
-use Rattle.line.specs.declared.Line.the-variants.{Request, Nothing, BadOperation, BadNumber}
-use Rattle.line.specs.declared.Line.the-variants.{TrailingText, TooLong}
-
-module _ (text : List ℕ) (a : ℕ) {w : Word} (next : w ≡ nextWord text a) where
-  module _ (operation argument count : ℕ) where
-    pub word-left : (w .start ≡ length text → ⊥) → TrailingText w ≡ request text a operation argument count
-    unfolding request
-    word-left h = rw (← next, ne-eqb (w .start) (length text) h)
-
-    pub none-left : w .start ≡ length text → Request operation argument count ≡ request text a operation argument count
-    unfolding request
-    none-left h = rw (← next, eq-eqb (w .start) (length text) h)
-
-  module _ {word : List ℕ} (found : word ≡ wordAt text w) {n : ℕ} (read : n ≡ number word) where
-    pub bad-count : (argument : ℕ) → limit ≤ n → BadNumber w ≡ counted text a argument
-    unfolding counted
-    bad-count argument h = rw (← next, ← found, ← read, le-ltb n limit h)
-
-    pub a-count : (argument : ℕ) → n < limit → request text (w .end) 5 argument n ≡ counted text a argument
-    unfolding counted
-    a-count argument h = rw (← next, ← found, ← read, lt-ltb n limit h)
-
-    module _ (operation : ℕ) where
-      pub bad-argument : limit ≤ n → BadNumber w ≡ operands text a operation
-      unfolding operands
-      bad-argument h = rw (← next, ← found, ← read, le-ltb n limit h)
-
-      pub two-numbers : n < limit → operation ≡ 5 → counted text (w .end) n ≡ operands text a operation
-      unfolding operands
-      two-numbers h e = rw (← next, ← found, ← read, lt-ltb n limit h, eq-eqb operation 5 e)
-
-      pub one-number : n < limit → (operation ≡ 5 → ⊥) → request text (w .end) operation n 0 ≡ operands text a operation
-      unfolding operands
-      one-number h e = rw (← next, ← found, ← read, lt-ltb n limit h, ne-eqb operation 5 e)
-
-module _ (text : List ℕ) {w : Word} (next : w ≡ nextWord text 0) where
-  pub no-word : w .start ≡ length text → Nothing ≡ statement text
-  unfolding statement
-  no-word h = rw (← next, eq-eqb (w .start) (length text) h)
-
-  module _ (some : w .start ≡ length text → ⊥) {word : List ℕ} (found : word ≡ wordAt text w)
-      {operation : ℕ} (named : operation ≡ operationOf word) where
-    pub no-operation : operation ≡ 6 → BadOperation w ≡ statement text
-    unfolding statement
-    no-operation h = rw (← next, ne-eqb (w .start) (length text) some, ← found, ← named, eq-eqb operation 6 h)
-
-    pub an-operation : (operation ≡ 6 → ⊥) → operands text (w .end) operation ≡ statement text
-    unfolding statement
-    an-operation h = rw (← next, ne-eqb (w .start) (length text) some, ← found, ← named, ne-eqb operation 6 h)
+use Rattle.line.specs.declared.Line.the-variants.{TooLong}
 
 module _ (line : List ℕ) where
   pub long-text : longestLine < length line → TooLong ≡ readText line

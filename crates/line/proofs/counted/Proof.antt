@@ -1,7 +1,7 @@
 -- `counted` reads the second number, or answers the word in its place.
 use mathlib.Core.Path.{_∙_}
-use native.Mathlib.Omega.{arith}
-use Rattle.line.proofs.Reading.{bad-count, a-count}
+use borrow.Author.Tests.{lt-ltb, le-ltb}
+use Rattle.line.specs.Line.{counted}
 use borrow.Author.Needs.{needs}
 use Rattle.line.proofs.counted.Statement.{statement}
 use Rattle.line.proofs.counted.Tie as tie
@@ -16,19 +16,22 @@ of-requires : tie.Need-of-requires
 of-requires c κs = search needs
 
 returns : tie.Need-returns
+unfolding counted
 returns c =
     let b = c .before .before in
-    bad-count _ _ (b .before .next .ensures .0) (b .word-bytes .ensures) (c .before .of .ensures) _ (c .if1 .taken)
+    let read = c .before .of .ensures in
+    rw (← b .before .next .ensures .0, ← b .word-bytes .ensures, ← read, le-ltb _ _ (c .if1 .taken))
 
 request-requires : tie.Need-request-requires
 request-requires c κs = search needs
 
 returns-2 : tie.Need-returns-2
+unfolding counted
 returns-2 c =
     let b = c .before .before in
     let f = b .before in
     c .request .ensures
-    ∙ a-count _ _ (f .before .next .ensures .0) (f .word-bytes .ensures) (b .of .ensures) _ (omega arith)
+    ∙ rw (← f .before .next .ensures .0, ← f .word-bytes .ensures, ← b .of .ensures, lt-ltb _ _ (c .before .if1 .left))
 
 pub counted-spec : {M : Type 1} → statement M
 counted-spec =

@@ -1,7 +1,7 @@
 -- `operands` reads one number or two, or answers the word in their place.
 use mathlib.Core.Path.{_∙_}
-use native.Mathlib.Omega.{arith}
-use Rattle.line.proofs.Reading.{bad-argument, two-numbers, one-number}
+use borrow.Author.Tests.{lt-ltb, le-ltb, eq-eqb, ne-eqb}
+use Rattle.line.specs.Line.{operands}
 use borrow.Author.Needs.{needs}
 use Rattle.line.proofs.operands.Statement.{statement}
 use Rattle.line.proofs.operands.Tie as tie
@@ -16,29 +16,37 @@ of-requires : tie.Need-of-requires
 of-requires c κs = search needs
 
 returns : tie.Need-returns
+unfolding operands
 returns c =
     let b = c .before .before in
-    bad-argument _ _ (b .before .next .ensures .0) (b .word-bytes .ensures) (c .before .of .ensures) _ (c .if1 .taken)
+    let read = c .before .of .ensures in
+    rw (← b .before .next .ensures .0, ← b .word-bytes .ensures, ← read, le-ltb _ _ (c .if1 .taken))
 
 counted-requires : tie.Need-counted-requires
 counted-requires c κs = search needs
 
 returns-2 : tie.Need-returns-2
+unfolding operands
 returns-2 c =
-    let b = c .before .before .before in
+    let t = c .before in
+    let b = t .before .before in
     let f = b .before in
-    let numbers = two-numbers _ _ (f .before .next .ensures .0) (f .word-bytes .ensures) (b .of .ensures) _ in
-    c .counted .ensures ∙ numbers (omega arith) (c .before .if2 .taken)
+    let fits = lt-ltb _ _ (t .before .if1 .left) in
+    c .counted .ensures
+    ∙ rw (← f .before .next .ensures .0, ← f .word-bytes .ensures, ← b .of .ensures, fits, eq-eqb _ _ (t .if2 .taken))
 
 request-requires : tie.Need-request-requires
 request-requires c κs = search needs
 
 returns-3 : tie.Need-returns-3
+unfolding operands
 returns-3 c =
-    let b = c .before .before .before in
+    let t = c .before in
+    let b = t .before .before in
     let f = b .before in
-    let numbers = one-number _ _ (f .before .next .ensures .0) (f .word-bytes .ensures) (b .of .ensures) _ in
-    c .request .ensures ∙ numbers (omega arith) (c .before .if2 .left)
+    let fits = lt-ltb _ _ (t .before .if1 .left) in
+    c .request .ensures
+    ∙ rw (← f .before .next .ensures .0, ← f .word-bytes .ensures, ← b .of .ensures, fits, ne-eqb _ _ (t .if2 .left))
 
 pub operands-spec : {M : Type 1} → statement M
 operands-spec =

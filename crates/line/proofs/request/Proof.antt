@@ -1,5 +1,6 @@
 -- `request` answers a request, or the word that is left.
-use Rattle.line.proofs.Reading.{word-left, none-left}
+use borrow.Author.Tests.{eq-eqb, ne-eqb}
+use Rattle.line.specs.Line.{request}
 use borrow.Author.Needs.{needs}
 use Rattle.line.proofs.request.Statement.{statement}
 use Rattle.line.proofs.request.Tie as tie
@@ -8,7 +9,8 @@ next-requires : tie.Need-next-requires
 next-requires c κs = search needs
 
 returns : tie.Need-returns
-returns c = word-left _ _ (c .before .before .next .ensures .0) _ _ _ (c .if1 .taken)
+unfolding request
+returns c = rw (← c .before .before .next .ensures .0, ne-eqb _ _ (c .if1 .taken))
 
 cast-t9 : tie.Need-cast-t9
 cast-t9 c = search needs
@@ -17,7 +19,8 @@ cast-t10 : tie.Need-cast-t10
 cast-t10 c = search needs
 
 returns-2 : tie.Need-returns-2
-returns-2 c = none-left _ _ (c .before .before .next .ensures .0) _ _ _ (c .if1 .left)
+unfolding request
+returns-2 c = rw (← c .before .before .next .ensures .0, eq-eqb _ _ (c .if1 .left))
 
 pub request-spec : {M : Type 1} → statement M
 request-spec = tie.close (tie.spec next-requires returns cast-t9 cast-t10 returns-2)

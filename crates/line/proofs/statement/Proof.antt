@@ -1,7 +1,8 @@
 -- `statement` answers nothing, an operation and its numbers, or the word in its place.
 use mathlib.Core.Path.{_∙_}
-use Rattle.line.proofs.Reading.{no-word, no-operation, an-operation}
+use borrow.Author.Tests.{eq-eqb, ne-eqb}
 use borrow.Author.Needs.{needs}
+use Rattle.line.specs.Line as line
 use Rattle.line.proofs.statement.Statement.{statement}
 use Rattle.line.proofs.statement.Tie as tie
 
@@ -9,7 +10,8 @@ next-requires : tie.Need-next-requires
 next-requires c κs = search needs
 
 returns : tie.Need-returns
-returns c = no-word _ (c .before .before .next .ensures .0) (c .if1 .taken)
+unfolding line.statement
+returns c = rw (← c .before .before .next .ensures .0, eq-eqb _ _ (c .if1 .taken))
 
 word-bytes-requires : tie.Need-word-bytes-requires
 word-bytes-requires c κs = search needs
@@ -18,22 +20,27 @@ operation-of-requires : tie.Need-operation-of-requires
 operation-of-requires c κs = search needs
 
 returns-2 : tie.Need-returns-2
+unfolding line.statement
 returns-2 c =
     let w = c .before .before in
     let b = w .before in
-    no-operation _ (b .before .before .next .ensures .0) (b .if1 .left) (w .word-bytes .ensures)
-    (c .before .operation-of .ensures) (c .if2 .taken)
+    let some = ne-eqb _ _ (b .if1 .left) in
+    let named = c .before .operation-of .ensures in
+    rw (← b .before .before .next .ensures .0, some, ← w .word-bytes .ensures, ← named, eq-eqb _ _ (c .if2 .taken))
 
 operands-requires : tie.Need-operands-requires
 operands-requires c κs = search needs
 
 returns-3 : tie.Need-returns-3
+unfolding line.statement
 returns-3 c =
-    let w = c .before .before .before in
+    let t = c .before in
+    let w = t .before .before in
     let b = w .before in
+    let some = ne-eqb _ _ (b .if1 .left) in
+    let named = t .before .operation-of .ensures in
     c .operands .ensures
-    ∙ an-operation _ (b .before .before .next .ensures .0) (b .if1 .left) (w .word-bytes .ensures)
-    (c .before .before .operation-of .ensures) (c .before .if2 .left)
+    ∙ rw (← b .before .before .next .ensures .0, some, ← w .word-bytes .ensures, ← named, ne-eqb _ _ (t .if2 .left))
 
 pub statement-spec : {M : Type 1} → statement M
 statement-spec =

@@ -2,9 +2,10 @@
 use Prim.Native.Nat.{_-_, _≤_}
 use mathlib.Core.Path.{_≡_, refl}
 use native.Mathlib.Omega.{arith}
+use borrow.Author.Tests.{eq-eqb}
 use lib.ListN.{length, drop}
-use Rattle.line.specs.Number.{limit, withDigits}
-use Rattle.line.proofs.Digits.{number-none, digits-more, digits-all}
+use Rattle.line.specs.Number.{limit, withDigits, number}
+use Rattle.line.proofs.Digits.{digits-more, digits-all}
 use Rattle.line.proofs.number.of.Statement.{statement}
 use Rattle.line.proofs.number.of.Tie as tie
 
@@ -15,7 +16,8 @@ abbrev μ-loop : tie.MeasureT-loop
 μ-loop word n₀ i₀ n i = length word - i
 
 returns : tie.Need-returns Inv-loop μ-loop
-returns c = number-none _ (c .if1 .taken)
+unfolding number
+returns c = rw (eq-eqb _ _ (c .if1 .taken))
 
 loop-holds : tie.Need-loop-holds Inv-loop μ-loop
 loop-holds c = (omega arith, omega arith, refl)
