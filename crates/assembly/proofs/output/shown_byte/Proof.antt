@@ -1,4 +1,5 @@
 -- `shown_byte` keeps the bytes between two others.
+use native.Mathlib.Omega.{arith}
 use borrow.Author.Tests.{le-leb, lt-leb}
 use Rattle.assembly.specs.Message.{shownByte}
 use Rattle.assembly.proofs.output.shown_byte.Statement.{statement}
@@ -10,11 +11,15 @@ returns c = rw (lt-leb _ _ (c .if1 .taken))
 
 returns-2 : tie.Need-returns-2
 unfolding shownByte
-returns-2 c = rw (le-leb _ _ (c .before .if1 .left), lt-leb _ _ (c .if2 .taken))
+returns-2 c =
+    let b = c .before .before .args .byte in
+    rw (le-leb 33 b (omega arith), lt-leb b 126 (omega arith))
 
 returns-3 : tie.Need-returns-3
 unfolding shownByte
-returns-3 c = rw (le-leb _ _ (c .before .if1 .left), le-leb _ _ (c .if2 .left))
+returns-3 c =
+    let b = c .before .before .args .byte in
+    rw (le-leb 33 b (omega arith), le-leb b 126 (omega arith))
 
 pub shown-byte-spec : {M : Type 1} → statement M
 shown-byte-spec = tie.close (tie.spec returns returns-2 returns-3)
