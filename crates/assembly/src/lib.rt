@@ -1,9 +1,10 @@
 // All lines of an input, one after another, to requests and to messages about bad lines.
 mod output;
 
+use numbers::least;
 ghost use mathlib.Core.Path.{_≡_};
 ghost use mathlib.Core.Bool.{true};
-ghost use Prim.Native.Nat.{_-_, _≤_, min};
+ghost use Prim.Native.Nat.{_≤_};
 ghost use lib.ListN.{length, drop};
 ghost use Rattle.writing.specs.Overwrite.{overwrite};
 ghost use Rattle.assembly.specs.Batch.{rest, requestsIn, messagesIn, doneOf, fits};
@@ -34,12 +35,6 @@ pub struct Turn {
     pub next: u64,
     pub requests: usize,
     pub messages: usize,
-}
-
-fn least(a: usize, b: usize) -> usize
-    ensures { λ r. ⌜ r ≡ min a b ⌝ }
-{
-    if a < b { a } else { b }
 }
 
 fn fits(len: usize, number: u64, out: usize, errors: usize) -> bool

@@ -1,6 +1,6 @@
 // Requests and messages, written one after another.
-use super::least;
 use line::Line;
+use numbers::least;
 ghost use Prim.Native.Nat.{_+_, _≤_};
 ghost use mathlib.Core.List.{map};
 ghost use mathlib.Core.Path.{_≡_};

@@ -1,7 +1,8 @@
 // Finding words in a text.
 use super::Word;
+use numbers::least;
 ghost use mathlib.Core.Path.{_≡_};
-ghost use Prim.Native.Nat.{_≤_, min};
+ghost use Prim.Native.Nat.{_≤_};
 ghost use lib.ListN.{length};
 ghost use Rattle.line.specs.Text.{isBlank, seek, nextWord, wordAt};
 
@@ -39,12 +40,6 @@ pub fn next(text: &[u8], from: usize) -> Word
     let start = seek(text, from, false);
     let end = seek(text, start, true);
     Word { start, end }
-}
-
-fn least(a: usize, b: usize) -> usize
-    ensures { λ r. ⌜ r ≡ min a b ⌝ }
-{
-    if a < b { a } else { b }
 }
 
 // The bytes of a word, as far as they lie in the text.
