@@ -92,16 +92,16 @@ module _ {input : List ℕ} {number : ℕ} {out₀ errors₀ : List ℕ} where
         → last ≡ end + 1 + indexOf newline (slice (end + 1) (length input) input) → last ≤ length input
         → Assembled input number out₀ errors₀ out₁ errors₁ (end + 1) (next + 1) r m last
     unfolding requestsOf messagesOf
-    assembled-more some t e small put small' put' f w =
+    assembled-more some t e small put small′ put′ f w =
         let found = line-found input at end (p .found) start some in
         let split = split-lines found in
         let from : at ≤ end = start in
         let after = drop (end + 1) input in
         let later = messagesIn (next + 1) after in
         let requests = filled-more (p .requests) {more = requestsIn after} (rw (split, e, t)) put (omega arith) in
-        let messages = filled-more (p .messages) {more = later} (rw (split, e, t)) put' (omega arith) in
+        let messages = filled-more (p .messages) {more = later} (rw (split, e, t)) put′ (omega arith) in
         let kept = filled-length (p .requests) ∙ sym (filled-length requests) in
-        let kept' = filled-length (p .messages) ∙ sym (filled-length messages) in
+        let kept′ = filled-length (p .messages) ∙ sym (filled-length messages) in
         record {
           requests = requests;
           messages = messages;

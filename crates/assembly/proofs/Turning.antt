@@ -61,11 +61,11 @@ module _ (input : List ℕ) (kept got number : ℕ) (out errors : List ℕ) {end
         let all : done .used + (end - done .used) ≡ end - 0 = omega (arith, size, read .1) in
         rw (← drop-take (done .used) (end - done .used) buffer (omega (arith, size, read .1)), all) after
 
-    pub a-turn : {n k : ℕ} {input' out' errors' : List ℕ} → n ≡ min longestStart (end - done .used)
-        → let start = take n (drop (done .used) buffer) in (k ≡ length start) × (input' ≡ overwrite buffer 0 start)
-        → (out' ≡ overwrite out 0 (requestsIn (front end buffer)))
-        × (errors' ≡ overwrite errors 0 (messagesIn number (front end buffer)))
-        → turned k (done .next) (done .requests) (done .messages) input' out' errors'
+    pub a-turn : {n k : ℕ} {input′ out′ errors′ : List ℕ} → n ≡ min longestStart (end - done .used)
+        → let start = take n (drop (done .used) buffer) in (k ≡ length start) × (input′ ≡ overwrite buffer 0 start)
+        → (out′ ≡ overwrite out 0 (requestsIn (front end buffer)))
+        × (errors′ ≡ overwrite errors 0 (messagesIn number (front end buffer)))
+        → turned k (done .next) (done .requests) (done .messages) input′ out′ errors′
         ≡ outcome input kept got number out errors
     unfolding outcome admitted
     a-turn few (size, p) (q, r) =
