@@ -8,7 +8,7 @@ use borrow.Author.Tests.{le-leb, lt-leb, eq-eqb, ne-eqb}
 use lib.ListN.{length, take, getD, set, length-append, length-take, length-map, take-append-drop}
 use lib.Seq.{take-length, take-suc}
 use Rattle.line.specs.Text.{bytes}
-use Rattle.line.proofs.Reading.{take-min}
+use Rattle.numbers.proofs.Cut.{take-min}
 use Rattle.writing.proofs.Writing.{Wrote, overwrite-length, wrote-then, wrote-byte, wrote-length}
 use Rattle.assembly.specs.Put.{Put}
 use Rattle.assembly.specs.Message.{shownMost, shownByte, shown, found}

@@ -8,7 +8,7 @@ use native.Mathlib.Omega.{arith}
 use lib.ListN.{length, take, drop}
 use lib.Seq.{drop-at, length-take-le, take-add}
 use Rattle.writing.specs.Overwrite.{overwrite}
-use Rattle.line.proofs.Reading.{take-min}
+use Rattle.numbers.proofs.Cut.{take-min}
 use Rattle.assembly.specs.Batch.{linesFrom, restFrom, rest, requestsOf, messagesOf}
 use Rattle.assembly.specs.Batch.{requestsIn, messagesIn, doneOf, fits, admitted}
 use Rattle.assembly.specs.Pieces.{longestStart}

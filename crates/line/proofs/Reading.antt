@@ -4,13 +4,14 @@ use mathlib.Core.Path.{_≡_, refl, _∙_}
 use mathlib.Core.Bool.{Bool, true, false}
 use mathlib.Core.List.{List, [], _∷_, _++_}
 use native.Mathlib.Nat.{sub-zero}
-use native.Mathlib.Decide.{decLt, decLe}
+use native.Mathlib.Decide.{decLt}
 use native.Mathlib.Omega.{arith}
 use borrow.Author.Tests.{lt-ltb, le-ltb, eq-eqb, ne-eqb}
 use lib.ListN.{length, take, drop, getD, length-append, length-take, length-drop}
-use lib.Seq.{take-all, take-length, take-take, take-append-seam, getD-append-seam}
+use lib.Seq.{take-length, take-append-seam, getD-append-seam}
 use lib.Dec.{eqb}
 use Rattle.bytes.specs.Bytes.{slice, indexOf}
+use Rattle.numbers.proofs.Cut.{take-min}
 use Rattle.line.specs.Text.{wordAt, carriageReturn, trimmedEnd, trimmed}
 use Rattle.line.specs.Line.{statement, hash, longestLine, readText, readLine}
 use Rattle.line.specs.declared.Word.{Word}
@@ -50,19 +51,6 @@ return-ignored line h =
     let size : length long - 1 ≡ length line = simp length-append (omega arith) in
     let last : getD long (length long - 1) 0 ≡ carriageReturn = rw size (getD-append-seam line carriageReturn [] 0) in
     rw (← return-last long last, size, take-append-seam, ← other-last line h, take-length)
-
--- the start of a list, cut twice
-pub take-min : (a b : ℕ) (xs : List ℕ) {n : ℕ} → n ≡ min a b → take n xs ≡ take a (take b xs)
-take-min a b xs {n} e = go (decLe a b)
-  where
-    go : Dec (a ≤ b) → take n xs ≡ take a (take b xs)
-    go (yes h) =
-        let m : n ≡ a = omega arith in
-        rw (m, take-take a b xs h)
-    go (no h) =
-        let m : n ≡ b = omega arith in
-        let size : length (take b xs) ≤ a = rw length-take (omega arith) in
-        rw (m, take-all a (take b xs) size)
 
 -- a word is what of it lies in the text
 pub word-within : (text : List ℕ) (w : Word) {start end : ℕ} → end ≡ min (w .end) (length text)

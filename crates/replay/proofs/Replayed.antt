@@ -7,8 +7,9 @@ use mathlib.Core.Path.{_≡_, refl, sym, ap, _∙_}
 use mathlib.Core.Bool.{and-false}
 use mathlib.Core.List.{List, [], _++_, append-assoc, append-nil}
 use lib.ListN.{length, take, drop, length-append, length-drop, drop-of-length-le}
-use lib.Seq.{take-all, take-length, drop-length, drop-drop}
+use lib.Seq.{take-length, drop-length, drop-drop}
 use borrow.Author.Tests.{lt-ltb, le-ltb, le-leb, lt-leb}
+use Rattle.numbers.proofs.Cut.{take-min}
 use Rattle.writing.specs.Overwrite.{overwrite}
 use Rattle.request.specs.Parse.{requestSize}
 use Rattle.replay.specs.Line.{lineRoom, lineFor}
@@ -29,23 +30,14 @@ module _ (room number : ℕ) (input : List ℕ) where
   pub accepted-no-numbers : 2 ^ 64 ≤ number + requests input → 0 ≡ accepted room number input
   accepted-no-numbers h = rw (le-ltb (number + requests input) (2 ^ 64) h, and-false)
 
--- to take or drop no more than a list has changes nothing
-module _ (n : ℕ) (xs : List ℕ) where
-  take-min : take (min n (length xs)) xs ≡ take n xs
-  take-min = elim (decLt n (length xs)) [
-    | yes h ↦ rw (min-eq-left (le-of-lt h))
-    | no h ↦
-        let all : length xs ≤ n = omega arith in
-        rw (min-eq-right all, take-length) (sym (take-all n xs all))
-  ]
-
-  drop-min : drop (min n (length xs)) xs ≡ drop n xs
-  drop-min = elim (decLt n (length xs)) [
-    | yes h ↦ rw (min-eq-left (le-of-lt h))
-    | no h ↦
-        let all : length xs ≤ n = omega arith in
-        rw (min-eq-right all, drop-length) (sym (drop-of-length-le xs all))
-  ]
+-- to drop no more than a list has changes nothing
+drop-min : (n : ℕ) (xs : List ℕ) → drop (min n (length xs)) xs ≡ drop n xs
+drop-min n xs = elim (decLt n (length xs)) [
+  | yes h ↦ rw (min-eq-left (le-of-lt h))
+  | no h ↦
+      let all : length xs ≤ n = omega arith in
+      rw (min-eq-right all, drop-length) (sym (drop-of-length-le xs all))
+]
 
 -- a request starts at a place and ends sixteen bytes on, or where the input ends
 module _ (input : List ℕ) (at end : ℕ) (e : end ≡ at + min requestSize (length input - at)) where
@@ -53,7 +45,7 @@ module _ (input : List ℕ) (at end : ℕ) (e : end ≡ at + min requestSize (le
   pub request-part : take (end - at) (drop at input) ≡ take requestSize (drop at input)
   request-part =
       let size : end - at ≡ min requestSize (length (drop at input)) = rw length-drop (omega arith) in
-      rw size (take-min requestSize (drop at input))
+      rw take-length at (take-min requestSize (length (drop at input)) (drop at input) size)
 
   -- what comes after it
   request-rest : drop end input ≡ drop requestSize (drop at input)

@@ -3,6 +3,7 @@ pub mod Finding
 pub mod Effects
 pub mod Results
 pub mod Serving
+pub mod Refusing
 pub mod Pairing
 pub mod Objects
 pub mod Tracking

@@ -9,15 +9,16 @@ use Rattle.request.specs.declared.Request.{Request}
 use Rattle.request.specs.declared.Request.the-variants.{Allocate}
 use Rattle.request.specs.declared.Parsed.{Parsed}
 use Rattle.request.specs.declared.Parsed.the-variants.{Whole}
-use Rattle.rules.specs.Outcome.{Outcome, refused, allocated, freed, told, reply, metadataAfter}
+use Rattle.rules.specs.Outcome.{Outcome, reply, metadataAfter}
 use Rattle.rules.specs.Allocate.{taken}
 use Rattle.rules.specs.Serve.{Lent, act}
 use Rattle.rules.specs.Pair.{Measures, Pair, allocations, frees, measurings, refusals}
 use Rattle.answer.proofs.Numbers.{refusal-number}
+use Rattle.rules.proofs.Refusing.{outcome-refused}
 use Rattle.rules.proofs.Results.{Change, Result, refusal, allocation, freeing, measuring, result, made, same-change, stepBy, eventBy}
 
 module _ (G : Layout) (m : List ℕ) where
-  -- a served allocation goes by the class alone, and a measuring and a refusal change nothing
+  -- a served allocation goes by the class alone, and a measuring changes nothing
   allocation-class : {o : Outcome} {x : Change} (size : ℕ) → Result G m (Whole (Allocate size)) o x → reply G o .number ≡ 0
       → o ≡ taken G m (classOf G size)
   allocation-class size (refusal _ r) e = absurd (refusal-number r e)
@@ -29,12 +30,6 @@ module _ (G : Layout) (m : List ℕ) where
   measuring-keeps q (allocation size c found t) h = absurd h
   measuring-keeps q (freeing offset start t) h = absurd h
   measuring-keeps q (measuring _ _ value offset bytes) h = refl
-
-  refusal-keeps : (o : Outcome) → (reply G o .number ≡ 0 → ⊥) → (reply G o .value ≡ 0) × (metadataAfter G m o ≡ m)
-  refusal-keeps (refused r) h = (refl, refl)
-  refusal-keeps (allocated c i g) h = absurd (h refl)
-  refusal-keeps (freed c i) h = absurd (h refl)
-  refusal-keeps (told value offset bytes) h = absurd (h refl)
 
   -- results with one change and one reply pair
   result-pair : {p q : Parsed} {o o′ : Outcome} {x : Change} → Result G m p o x → Result G m q o′ x
@@ -60,8 +55,8 @@ module _ (G : Layout) (m : List ℕ) where
         let right : metadataAfter G m (act G m lent′ q) ≡ m = rw e′ (measuring-keeps b (result G m fits lent′ (Whole b) .1) k) in
         λ i. record { answer = record { number = (s ∙ sym s′) i; value = v i }; metadata = (left ∙ sym right) i }
     pair-steps (refusals h e) =
-        let (value, left) = refusal-keeps (act G m lent p) h in
-        let (value′, right) = refusal-keeps (act G m lent′ q) (λ z. h (e ∙ z)) in
+        let (value, left, _) = outcome-refused G m (act G m lent p) h in
+        let (value′, right, _) = outcome-refused G m (act G m lent′ q) (λ z. h (e ∙ z)) in
         λ i. record { answer = record { number = e i; value = (value ∙ sym value′) i }; metadata = (left ∙ sym right) i }
 
     -- and only pairs

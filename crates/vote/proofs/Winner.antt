@@ -103,12 +103,12 @@ leader-le table (suc n) =
     go false rest = omega arith
 
 -- the votes of the leader of the first i replicas; of none, 0
-abbrev pub most : List (List Bool) → ℕ → ℕ → ℕ
-most table best zero = 0
-most table best (suc i) = votes (getD table best [])
+abbrev pub topVotes : List (List Bool) → ℕ → ℕ → ℕ
+topVotes table best zero = 0
+topVotes table best (suc i) = votes (getD table best [])
 
 -- the next replica leads if it has more votes; if it has not, who led leads on
-leader-next : (table : List (List Bool)) (i : ℕ) {best top : ℕ} → best ≡ leader table i → top ≡ most table best i
+leader-next : (table : List (List Bool)) (i : ℕ) {best top : ℕ} → best ≡ leader table i → top ≡ topVotes table best i
     → (top < votes (getD table i []) → leader table (suc i) ≡ i)
     × (votes (getD table i []) ≤ top → (leader table (suc i) ≡ best) × (top ≡ votes (getD table best [])))
 unfolding leader
@@ -123,7 +123,7 @@ leader-next table (suc i) e h =
 pub record Led (table : List (List Bool)) (k best top i : ℕ) : Type 0 where
   pub within : i ≤ k
   pub first : best ≡ leader table i
-  pub has : top ≡ most table best i
+  pub has : top ≡ topVotes table best i
 
 module _ {table : List (List Bool)} {k : ℕ} where
   -- none counted yet

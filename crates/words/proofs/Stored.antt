@@ -11,7 +11,7 @@ use lib.ListN.{length, take, drop, set, length-drop, drop-of-length-le}
 use lib.Seq.{sets-eq, take-all, drop-drop}
 use Rattle.writing.specs.Overwrite.{overwrite}
 use Rattle.writing.proofs.Writing.{overwrite-length}
-use Rattle.writing.proofs.Parts.{part-after}
+use Rattle.writing.proofs.Parts.{part-before, part-after}
 use Rattle.words.specs.Word.{wordOf, bytesOf, wordAt, putWord}
 
 module _ (b : List ℕ) (at : ℕ) where
@@ -36,7 +36,7 @@ module _ (b : List ℕ) (at : ℕ) where
         rw (le-leb (at + 4) (length b) h, p, q, r, s, one, two, three)
         (sets-eq (bytesOf n) b at h ∙ append-assoc (take at b) (bytesOf n) (drop (at + 4) b) ∙ rw (drop-drop 4 at b))
 
-    -- either way the length stays, and so does what lies after the four bytes
+    -- either way the length stays, and so do the bytes of every other place
     put-keeps : (P : List ℕ → Type 0) → P b → (at + 4 ≤ length b → P (overwrite b at (bytesOf n))) → P (putWord b at n)
     put-keeps P none some = go (leb (at + 4) (length b)) refl
       where
@@ -46,6 +46,11 @@ module _ (b : List ℕ) (at : ℕ) where
 
     pub put-length : length (putWord b at n) ≡ length b
     put-length = put-keeps (λ l. length l ≡ length b) refl (overwrite-length b at (bytesOf n))
+
+    pub put-before : (p k : ℕ) → p + k ≤ at → take k (drop p (putWord b at n)) ≡ take k (drop p b)
+    put-before p k h =
+        put-keeps (λ l. take k (drop p l) ≡ take k (drop p b)) refl
+        (λ room. part-before b at (bytesOf n) (omega arith) p k h)
 
     pub put-after : (p : ℕ) → at + 4 ≤ p → drop p (putWord b at n) ≡ drop p b
     put-after p h = put-keeps (λ l. drop p l ≡ drop p b) refl (λ room. part-after b at (bytesOf n) (omega arith) p h)
