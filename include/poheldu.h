@@ -1,10 +1,10 @@
 /*
  * Poheldu: a heap for C programs in which every function is proved.
  *
- * Objects are placed at random in size classes, wrong frees are refused and do no harm, copies end
- * where their object ends, and replicas vote on their output. The caller lends two buffers and
- * keeps them: the heap, whose bytes the program's objects have, and its metadata, which only these
- * functions write. The library has no state of its own and allocates nothing.
+ * Objects are placed at random in size classes, wrong frees are refused and do no harm, copies and
+ * reads end where their object ends, and replicas vote on their output. The caller lends two
+ * buffers and keeps them: the heap, whose bytes the program's objects have, and its metadata, which
+ * only these functions write. The library has no state of its own and allocates nothing.
  *
  * A first program:
  *
@@ -167,6 +167,15 @@ typedef struct {
 } poheldu_answer;
 
 /*
+ * number as above; value: how many bytes a read shows. They are those from start on of the heap
+ * (of_page 0) or of the page that the caller lends (of_page 1). On refusal, the empty part of the
+ * page: of_page 1, value and start 0.
+ */
+typedef struct {
+    uint32_t number, value, of_page, start;
+} poheldu_part;
+
+/*
  * number as above; mask: bit r for each winning replica r; value: how many they are; replica: one
  * of them. All 0 but the number on refusal.
  */
@@ -233,21 +242,46 @@ POHELDU_NODISCARD poheldu_answer poheldu_open(const uint8_t *heap, size_t heap_l
  * answers. Refuses HEAP_LENGTH, METADATA_LENGTH, MALFORMED_REQUEST, then what the request's
  * operation refuses.
  *
- * heap, heap_len          read by none, written by copies
+ * heap, heap_len          written by copies; only its length matters to the answer
  * metadata, metadata_len  read by all, written by allocate and free
  * request, request_len    16 bytes
  * source, source_len      what a copy reads; else not looked at
+ * page, page_len          the fallback page: what POHELDU_READ shows where the offset lies in no
+ *                         live object; only its length matters to the answer
+ *
+ * The value of POHELDU_READ is how many bytes it shows; poheldu_read also says where they lie.
  *
  * Overlap: here the caller sees to it that the source of a copy shares no byte with the heap.
  *
  *     uint8_t request[POHELDU_REQUEST_BYTES];
  *     poheldu_pack(request, POHELDU_FREE, 640, 0);
  *     poheldu_answer a = poheldu_serve(heap, sizeof heap, metadata, sizeof metadata,
- *                                      request, sizeof request, NULL, 0);
+ *                                      request, sizeof request, NULL, 0, NULL, 0);
  */
 poheldu_answer poheldu_serve(uint8_t *heap, size_t heap_len, uint8_t *metadata, size_t metadata_len,
                              const uint8_t *request, size_t request_len, const uint8_t *source,
-                             size_t source_len);
+                             size_t source_len, const uint8_t *page, size_t page_len);
+
+/*
+ * Where the bytes of an object lie, for programs that look at them without a copy: those from the
+ * offset on, up to count, and none past the end of the live object that the offset lies in. Where
+ * it lies in none, those at the front of the page, up to count; never some of both. No byte is
+ * copied or changed. Refuses HEAP_LENGTH, METADATA_LENGTH, OUT_OF_RANGE.
+ *
+ * heap, heap_len          the heap; only its length matters
+ * metadata, metadata_len  read
+ * offset                  at the object's start or further on
+ * count                   how many bytes are wanted, from 0 to UINT32_MAX
+ * page, page_len          the fallback page, which may lie in the heap; only its length matters
+ *
+ *     poheldu_part r = poheldu_read(heap, sizeof heap, metadata, sizeof metadata, 640, 80,
+ *                                   page, page_len);
+ *     fwrite((r.of_page ? page : heap) + r.start, 1, r.value, stdout);
+ */
+POHELDU_NODISCARD poheldu_part poheldu_read(const uint8_t *heap, size_t heap_len,
+                                            const uint8_t *metadata, size_t metadata_len,
+                                            uint32_t offset, uint32_t count, const uint8_t *page,
+                                            size_t page_len);
 
 /*
  * A vote of replicas on a block of output: the content that most replicas share wins, if two or
@@ -317,6 +351,30 @@ static inline poheldu_answer poheldu_delete(const poheldu_heap *h, const void *p
  *         return;
  */
 POHELDU_NODISCARD static inline size_t poheldu_usable_size(const poheldu_heap *h, const void *p);
+
+/* Bytes of an object or of a page, where they lie. */
+typedef struct {
+    const uint8_t *bytes;
+    size_t len;
+} poheldu_view;
+
+/*
+ * Shows the object that p points into, without a copy: its bytes from p on, up to count, and none
+ * past its end. Where it is freed, or p points into no object, the page stands in: its first bytes,
+ * up to count and at most UINT32_MAX. Where p is null or outside the heap, or a length is refused,
+ * no bytes are shown: the page with a length of 0. So a program that prints len bytes needs no case
+ * for any of these. One that wants to know lends no page, null and 0: then bytes is null exactly
+ * where p points into no live object.
+ *
+ * The bytes are the object's own: what is written to it later shows in them, and once it is freed
+ * they may become another object's.
+ *
+ *     poheldu_view v = poheldu_look(h, p, 80, "[freed]", 7);
+ *     fwrite(v.bytes, 1, v.len, stdout);
+ */
+POHELDU_NODISCARD static inline poheldu_view poheldu_look(const poheldu_heap *h, const void *p,
+                                                          size_t count, const void *page,
+                                                          size_t page_len);
 
 /*
  * The three copies: to is a pointer into an object, at its start or further on, and no byte past
@@ -401,14 +459,15 @@ typedef enum {
     POHELDU_REMAINING = 2,
     POHELDU_COPY_BYTES = 3,
     POHELDU_COPY_STRING = 4,
-    POHELDU_COPY_PADDED = 5
+    POHELDU_COPY_PADDED = 5,
+    POHELDU_READ = 6
 } poheldu_operation;
 
 #define POHELDU_REQUEST_BYTES 16
 
 /*
- * The bytes of a request: the operation, its size or offset, its count (POHELDU_COPY_PADDED alone,
- * else 0), and 0, each as four bytes, lowest first.
+ * The bytes of a request: the operation, its size or offset, its count (POHELDU_COPY_PADDED and
+ * POHELDU_READ, else 0), and 0, each as four bytes, lowest first.
  *
  *     uint8_t request[POHELDU_REQUEST_BYTES];
  *     poheldu_pack(request, POHELDU_ALLOCATE, 100, 0);
@@ -422,7 +481,8 @@ static inline void poheldu_pack(uint8_t request[POHELDU_REQUEST_BYTES], uint32_t
 }
 
 /*
- * Packs a request and serves it. Overlap: the caller sees to it, as for poheldu_serve.
+ * Packs a request and serves it. It lends no page, so that POHELDU_READ has the value 0 where the
+ * offset lies in no live object. Overlap: the caller sees to it, as for poheldu_serve.
  *
  *     poheldu_answer a = poheldu_request(h, POHELDU_COPY_BYTES, 640, 0, "abc", 3);
  */
@@ -433,7 +493,7 @@ static inline poheldu_answer poheldu_request(const poheldu_heap *h, uint32_t ope
     uint8_t request[POHELDU_REQUEST_BYTES];
     poheldu_pack(request, operation, argument, count);
     return poheldu_serve(h->heap, h->heap_len, h->metadata, h->metadata_len, request,
-                         sizeof request, (const uint8_t *)source, source_len);
+                         sizeof request, (const uint8_t *)source, source_len, NULL, 0);
 }
 
 /*
@@ -470,6 +530,24 @@ POHELDU_NODISCARD static inline poheldu_answer poheldu_remaining(const poheldu_h
                                                                  size_t offset)
 {
     return poheldu_request(h, POHELDU_REMAINING, poheldu_word_(offset), 0, NULL, 0);
+}
+
+/*
+ * Shows the object that an offset lies in, without a copy, as poheldu_look does. It shows nothing
+ * where poheldu_read, which says why, is refused.
+ *
+ *     poheldu_view v = poheldu_look_at(h, offset, SIZE_MAX, page, page_len);
+ */
+POHELDU_NODISCARD static inline poheldu_view poheldu_look_at(const poheldu_heap *h, size_t offset,
+                                                             size_t count, const void *page,
+                                                             size_t page_len)
+{
+    const poheldu_part part =
+        poheldu_read(h->heap, h->heap_len, h->metadata, h->metadata_len, poheldu_word_(offset),
+                     poheldu_word_(count), (const uint8_t *)page, page_len);
+    const poheldu_view view = {part.of_page ? (const uint8_t *)page : h->heap + part.start,
+                               part.value};
+    return view;
 }
 
 /* Whether two buffers share a byte. */
@@ -562,6 +640,12 @@ static inline poheldu_answer poheldu_delete(const poheldu_heap *h, const void *p
 static inline size_t poheldu_usable_size(const poheldu_heap *h, const void *p)
 {
     return poheldu_remaining(h, poheldu_offset(h, p)).value;
+}
+
+static inline poheldu_view poheldu_look(const poheldu_heap *h, const void *p, size_t count,
+                                        const void *page, size_t page_len)
+{
+    return poheldu_look_at(h, poheldu_offset(h, p), count, page, page_len);
 }
 
 static inline poheldu_answer poheldu_memcpy(const poheldu_heap *h, void *to, const void *from,

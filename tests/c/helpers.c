@@ -18,7 +18,7 @@ extern "C"
 #endif
     poheldu_answer
     poheldu_serve(uint8_t *heap, size_t heap_len, uint8_t *metadata, size_t metadata_len, const uint8_t *request,
-                  size_t request_len, const uint8_t *source, size_t source_len);
+                  size_t request_len, const uint8_t *source, size_t source_len, const uint8_t *page, size_t page_len);
 
 enum { FAILURES_SHOWN = 20 };
 
@@ -46,13 +46,16 @@ static const uint8_t *lent;
 static size_t lent_len;
 
 poheldu_answer watched_serve(uint8_t *heap, size_t heap_len, uint8_t *metadata, size_t metadata_len,
-                             const uint8_t *request, size_t request_len, const uint8_t *source, size_t source_len)
+                             const uint8_t *request, size_t request_len, const uint8_t *source, size_t source_len,
+                             const uint8_t *page, size_t page_len)
 {
     const uintptr_t first = (uintptr_t)source, start = (uintptr_t)heap;
     EXPECT(source_len == 0 || heap_len == 0 || first + source_len <= start || start + heap_len <= first);
+    EXPECT(page == NULL && page_len == 0);
     lent = source;
     lent_len = source_len;
-    return poheldu_serve(heap, heap_len, metadata, metadata_len, request, request_len, source, source_len);
+    return poheldu_serve(heap, heap_len, metadata, metadata_len, request, request_len, source, source_len, page,
+                         page_len);
 }
 
 /* ---- heaps to try on */
@@ -129,8 +132,8 @@ static poheldu_answer served_apart(poheldu_heap twin, poheldu_operation operatio
 {
     uint8_t request[POHELDU_REQUEST_BYTES], *const apart = copy_of(source, len);
     poheldu_pack(request, operation, (uint32_t)offset, count);
-    const poheldu_answer a =
-        poheldu_serve(twin.heap, twin.heap_len, twin.metadata, twin.metadata_len, request, sizeof request, apart, len);
+    const poheldu_answer a = poheldu_serve(twin.heap, twin.heap_len, twin.metadata, twin.metadata_len, request,
+                                           sizeof request, apart, len, NULL, 0);
     free(apart);
     return a;
 }
@@ -398,6 +401,107 @@ static void destinations_outside(void)
     closed(h);
 }
 
+/* ---- views */
+
+static int shows(poheldu_view v, const void *bytes, size_t len)
+{
+    return v.bytes == (const uint8_t *)bytes && v.len == len;
+}
+
+/* A view of a part is what the header's example at poheldu_read makes of it. */
+static void try_look(poheldu_heap h, uint32_t offset, uint32_t count, const uint8_t *page, size_t page_len)
+{
+    const poheldu_part r =
+        poheldu_read(h.heap, h.heap_len, h.metadata, h.metadata_len, offset, count, page, page_len);
+    const uint32_t space = poheldu_remaining(&h, offset).value;
+    const size_t most = space > 0 ? space : page_len;
+    EXPECT(r.number == POHELDU_SERVED && r.value == (count < most ? count : most));
+    EXPECT(r.of_page == (space > 0 ? 0 : 1) && r.start == (space > 0 ? offset : 0));
+    EXPECT(shows(poheldu_look_at(&h, offset, count, page, page_len), (r.of_page ? page : h.heap) + r.start, r.value));
+    EXPECT(shows(poheldu_look(&h, poheldu_at(&h, offset), count, page, page_len), (r.of_page ? page : h.heap) + r.start,
+                 r.value));
+}
+
+/* Offsets all over a heap with live and freed objects and none; counts around what is left and what the page has. */
+static void looks_everywhere(void)
+{
+    enum { PAGE = 5 };
+    const poheldu_heap h = opened(POHELDU_SMALLEST_REGION);
+    uint8_t *const page = (uint8_t *)allocated(PAGE);
+    for (uint32_t size = 1; size <= 512; size += 3) {
+        const poheldu_answer a = poheldu_allocate(&h, size);
+        if (a.number == POHELDU_SERVED && random_below(4) == 0)
+            poheldu_free(&h, a.value);
+    }
+    const poheldu_heap before = twin_of(h);
+    unsigned live = 0, others = 0;
+    for (uint32_t offset = 0; offset < h.heap_len; offset += 1 + random_below(8)) {
+        const uint32_t space = poheldu_remaining(&h, offset).value;
+        live += space > 0;
+        others += space == 0;
+        const uint32_t counts[] = {0, 1, PAGE - 1, PAGE, PAGE + 1, space - 1, space, space + 1, UINT32_MAX};
+        for (size_t i = 0; i < sizeof counts / sizeof *counts; i++) {
+            try_look(h, offset, counts[i], page, PAGE);
+            try_look(h, offset, counts[i], h.heap, h.heap_len); /* the page may lie in the heap, and be all of it */
+        }
+    }
+    EXPECT(same(h, before));
+    EXPECT(live > 100 && others > 100);
+    free(page);
+    closed(before);
+    closed(h);
+}
+
+/* Ends of objects and pages, and what a program sees without a page. */
+static void ends_of_views(void)
+{
+    const poheldu_heap h = opened(1024);
+    const char *const p = (const char *)poheldu_new(&h, 5), page[] = "withdrawn";
+    EXPECT(shows(poheldu_look(&h, p, 5, page, 9), p, 5));
+    EXPECT(shows(poheldu_look(&h, p, 9, page, 9), p, 8) && shows(poheldu_look(&h, p + 3, 9, page, 9), p + 3, 5));
+    EXPECT(shows(poheldu_look(&h, p, 0, page, 9), p, 0) && shows(poheldu_look(&h, p + 7, 0, NULL, 0), p + 7, 0));
+    EXPECT(shows(poheldu_look(&h, p, 4, NULL, 0), p, 4));
+    poheldu_delete(&h, p);
+    EXPECT(shows(poheldu_look(&h, p, 4, page, 9), page, 4) && shows(poheldu_look(&h, p + 7, 4, page, 9), page, 4));
+    EXPECT(shows(poheldu_look(&h, p, 20, page, 9), page, 9) && shows(poheldu_look(&h, p, 20, page, 2), page, 2));
+    EXPECT(shows(poheldu_look(&h, p, 0, page, 9), page, 0) && shows(poheldu_look(&h, p, 4, page, 0), page, 0));
+    EXPECT(shows(poheldu_look(&h, p, 4, NULL, 0), NULL, 0));
+    EXPECT(is(poheldu_request(&h, POHELDU_READ, poheldu_offset(&h, p), 4, NULL, 0), POHELDU_SERVED, 0));
+    closed(h);
+}
+
+/* A view of what is refused is the empty part of the page; of an offset or a count above 32 bits nothing is cut. */
+static void views_refused(void)
+{
+    const poheldu_heap h = opened(1024), nowhere = {NULL, 0, NULL, 0};
+    char *const p = (char *)poheldu_new(&h, 100);
+    const uint32_t offset = poheldu_offset(&h, p);
+    const size_t wide = (size_t)UINT32_MAX + 1;
+    const char page[] = "withdrawn";
+    const poheldu_heap before = twin_of(h), bad_heap = {h.heap, h.heap_len - 1, h.metadata, h.metadata_len},
+                       bad_metadata = {h.heap, h.heap_len, h.metadata, h.metadata_len - 1};
+    const void *const outside[] = {NULL, page, before_start(h), h.heap + h.heap_len, h.metadata};
+    for (size_t i = 0; i < sizeof outside / sizeof *outside; i++) {
+        EXPECT(shows(poheldu_look(&h, outside[i], 4, page, 9), page, 0));
+        EXPECT(shows(poheldu_look(&h, outside[i], 4, NULL, 0), NULL, 0));
+    }
+    EXPECT(shows(poheldu_look(&bad_heap, p, 4, page, 9), page, 0));
+    EXPECT(shows(poheldu_look(&bad_metadata, p, 4, page, 9), page, 0));
+    EXPECT(shows(poheldu_look(&nowhere, p, 4, page, 9), page, 0));
+    EXPECT(shows(poheldu_look_at(&h, h.heap_len, 4, page, 9), page, 0));
+    EXPECT(shows(poheldu_look_at(&h, wide + offset, 4, page, 9), page, 0));
+    EXPECT(shows(poheldu_look_at(&h, SIZE_MAX, 4, page, 9), page, 0));
+    const size_t counts[] = {UINT32_MAX, wide, wide + 2, SIZE_MAX};
+    for (size_t i = 0; i < sizeof counts / sizeof *counts; i++) {
+        EXPECT(shows(poheldu_look(&h, p, counts[i], page, 9), p, 128));
+        EXPECT(shows(poheldu_look_at(&h, offset + 100, counts[i], page, 9), p + 100, 28));
+        EXPECT(shows(poheldu_look_at(&h, h.heap_len - 1, counts[i], page, 9), page, 9));
+    }
+    EXPECT(same(h, before));
+    closed(before);
+    closed(h);
+}
+
 /* ---- macros */
 
 typedef uint8_t heap_array[POHELDU_HEAP_BYTES(1024)], metadata_array[POHELDU_METADATA_BYTES(1 << 12)];
@@ -429,6 +533,9 @@ int main(void)
     wide_numbers();
     deletes();
     usable_sizes();
+    ends_of_views();
+    views_refused();
+    looks_everywhere();
     destinations_outside();
     ends_of_texts();
     sources_elsewhere();

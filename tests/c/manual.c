@@ -1,6 +1,7 @@
 /*
- * What include/poheldu.h says in words against the library: its table of how many objects a class takes, and the names
- * of its refusals. The first argument is the header's path. Prints what is wrong, and then exits 1.
+ * What include/poheldu.h says in words against the library: its table of how many objects a class takes, the names of
+ * its refusals, and which operations there are and which have a count. The first argument is the header's path. Prints
+ * what is wrong, and then exits 1.
  */
 #include "poheldu.h"
 
@@ -9,9 +10,9 @@
 #include <stdlib.h>
 #include <string.h>
 
-enum { COLUMNS = 6, LINE = 256, NO_OBJECTS = -1 };
+enum { COLUMNS = 6, LINE = 256, OPERATIONS = 16, NO_OBJECTS = -1 };
 
-static unsigned cells, names, failures;
+static unsigned cells, names, operations, failures;
 
 static void wrong(const char *what, const char *line)
 {
@@ -127,8 +128,58 @@ static void check_names(FILE *header)
         wrong("a name for a number that no refusal has", poheldu_name(names));
 }
 
+/* Whether the library refuses a request of this operation with this count for what it is made of. */
+static int malformed(unsigned operation, uint32_t count)
+{
+    const poheldu_heap h = opened(POHELDU_SMALLEST_REGION);
+    const poheldu_answer a = poheldu_request(&h, operation, 0, count, NULL, 0);
+    free(h.heap);
+    free(h.metadata);
+    return a.number == POHELDU_MALFORMED_REQUEST;
+}
+
+/* The operations are numbered from 0, and the library knows them and no other; named: what they are called. */
+static void check_numbers(FILE *header, char named[OPERATIONS][LINE])
+{
+    static const char indent[] = "    ";
+    char line[LINE] = "";
+    while (fgets(line, LINE, header) != NULL && strcmp(line, "typedef enum {\n") != 0)
+        ;
+    for (; fgets(line, LINE, header) != NULL && operations < OPERATIONS; operations++) {
+        char *const equals = strstr(line, " = ");
+        if (equals == NULL)
+            break;
+        if (strtoul(equals + strlen(" = "), NULL, 10) != operations || malformed(operations, 0))
+            wrong("not the number of that operation", line);
+        *equals = '\0';
+        strcpy(named[operations], line + strlen(indent));
+    }
+    if (strcmp(line, "} poheldu_operation;\n") != 0)
+        wrong("not the enum of operations", line);
+    if (!malformed(operations, 0) || !malformed(UINT8_MAX, 0))
+        wrong("an operation more than in the enum", line);
+}
+
+/* Those that have a count are named where poheldu_pack says what the bytes of a request are. */
+static void check_counts(FILE *header, char named[OPERATIONS][LINE])
+{
+    static const char start[] = " * The bytes of a request: ";
+    char line[LINE] = "", said[4 * LINE] = "";
+    while (fgets(line, LINE, header) != NULL && strncmp(line, start, strlen(start)) != 0)
+        ;
+    while (strcmp(line, " *\n") != 0 && strlen(said) + strlen(line) < sizeof said) {
+        strcat(said, line);
+        if (fgets(line, LINE, header) == NULL)
+            break;
+    }
+    for (unsigned i = 0; i < operations; i++)
+        if (malformed(i, 1) != (strstr(said, named[i]) == NULL))
+            wrong("a count that is not as the bytes of a request have it", named[i]);
+}
+
 int main(int count, char **arguments)
 {
+    static char named[OPERATIONS][LINE];
     FILE *const header = count == 2 ? fopen(arguments[1], "r") : NULL;
     if (header == NULL) {
         fprintf(stderr, "usage: manual include/poheldu.h\n");
@@ -136,7 +187,9 @@ int main(int count, char **arguments)
     }
     check_table(header);
     check_names(header);
+    check_numbers(header, named);
+    check_counts(header, named);
     fclose(header);
-    printf("%u cells and %u names, %u wrong\n", cells, names, failures);
-    return failures > 0 || cells == 0 || names == 0;
+    printf("%u cells, %u names and %u operations, %u wrong\n", cells, names, operations, failures);
+    return failures > 0 || cells == 0 || names == 0 || operations == 0;
 }

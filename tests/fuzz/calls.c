@@ -6,12 +6,13 @@
 #include <stdio.h>
 #include <stdlib.h>
 
-enum { NUMBERS = POHELDU_NO_AGREEMENT + 1, OPERATIONS = 6, CLASSES = 12, REPLICAS = 16 };
+enum { NUMBERS = POHELDU_NO_AGREEMENT + 1, OPERATIONS = 7, CLASSES = 12, REPLICAS = 16 };
 
 static struct {
     uint64_t numbers[NUMBERS];   /* answers, by refusal number */
     uint64_t served[OPERATIONS]; /* served requests, by operation */
     uint64_t requests, walks;    /* walks: allocations that took another slot than the last one drawn */
+    uint64_t shown[2][2];        /* reads served, by of_page and by whether the part has a byte */
 } seen;
 
 /* ---- differences */
@@ -60,6 +61,18 @@ static void require_same(poheldu_answer ours, poheldu_answer theirs, const char 
     stop(lent);
 }
 
+/* The second implementation cannot write what it reads: equal buffers are unchanged ones. */
+static void require_same_part(poheldu_part ours, poheldu_part theirs, buffers lent)
+{
+    if (ours.number == theirs.number && ours.value == theirs.value && ours.of_page == theirs.of_page && ours.start == theirs.start && all_equal(lent))
+        return;
+    fprintf(stderr, "difference at a read: library answers %" PRIu32 ", value %" PRIu32 ", of_page %" PRIu32 ", start %" PRIu32, ours.number,
+            ours.value, ours.of_page, ours.start);
+    fprintf(stderr, "; second implementation %" PRIu32 ", value %" PRIu32 ", of_page %" PRIu32 ", start %" PRIu32 "\n", theirs.number, theirs.value,
+            theirs.of_page, theirs.start);
+    stop(lent);
+}
+
 /* Which winner a served vote names is open; all else is fixed. */
 static bool names_a_winner(poheldu_verdict v)
 {
@@ -102,6 +115,8 @@ bool calls_saw_all(void)
         all = all && seen.numbers[i] > 0;
     for (int i = 0; i < OPERATIONS; i++)
         all = all && seen.served[i] > 0;
+    for (int i = 0; i < 2; i++)
+        all = all && seen.shown[i][0] > 0 && seen.shown[i][1] > 0;
     return all;
 }
 
@@ -116,6 +131,8 @@ void calls_report(void)
     for (int i = 0; i < OPERATIONS; i++)
         fprintf(stderr, " %" PRIu64, seen.served[i]);
     fprintf(stderr, "; allocations by the walk: %" PRIu64 "\n", seen.walks);
+    fprintf(stderr, "fuzz: parts shown of the heap: %" PRIu64 ", empty %" PRIu64 "; of the page: %" PRIu64 ", empty %" PRIu64 "\n", seen.shown[0][1],
+            seen.shown[0][0], seen.shown[1][1], seen.shown[1][0]);
     fprintf(stderr, "fuzz: %" PRIu64 " calls, %" PRIu64 " of them requests\n", calls, seen.requests);
 }
 
@@ -131,19 +148,32 @@ poheldu_answer call_open(lent_heap h, uint32_t z, uint32_t w)
     return ours;
 }
 
-poheldu_answer call_serve(lent_heap h, const twin *request, const twin *source)
+poheldu_answer call_serve(lent_heap h, const twin *request, const twin *source, const twin *page)
 {
     const twin *const heap = h.heap, *const metadata = h.metadata;
     const poheldu_answer ours = poheldu_serve(twin_ours(heap), heap->len, twin_ours(metadata), metadata->len, twin_ours(request), request->len,
-                                              twin_ours(source), source->len);
+                                              twin_ours(source), source->len, twin_ours(page), page->len);
     const poheldu_answer theirs = reference_serve(twin_theirs(heap), heap->len, twin_theirs(metadata), metadata->len, twin_theirs(request),
-                                                  request->len, twin_theirs(source), source->len);
-    require_same(ours, theirs, "a request", BUFFERS(heap, metadata, request, source));
+                                                  request->len, twin_theirs(source), source->len, twin_theirs(page), page->len);
+    require_same(ours, theirs, "a request", BUFFERS(heap, metadata, request, source, page));
     seen.numbers[ours.number]++;
     seen.requests++;
     if (ours.number == POHELDU_SERVED)
         count_served(h, request, ours.value);
     return ours;
+}
+
+void call_read(lent_heap h, uint32_t offset, uint32_t count, const twin *page)
+{
+    const twin *const heap = h.heap, *const metadata = h.metadata;
+    const poheldu_part ours =
+        poheldu_read(twin_ours(heap), heap->len, twin_ours(metadata), metadata->len, offset, count, twin_ours(page), page->len);
+    const poheldu_part theirs =
+        reference_read(twin_theirs(heap), heap->len, twin_theirs(metadata), metadata->len, offset, count, twin_theirs(page), page->len);
+    require_same_part(ours, theirs, BUFFERS(heap, metadata, page));
+    seen.numbers[ours.number]++;
+    if (ours.number == POHELDU_SERVED)
+        seen.shown[ours.of_page > 0][ours.value > 0]++;
 }
 
 void call_vote(const twin *blocks, size_t replicas, size_t block_len, const twin *output)

@@ -13,11 +13,12 @@ typedef struct {
 } lent_heap;
 
 poheldu_answer call_open(lent_heap h, uint32_t z, uint32_t w);
-poheldu_answer call_serve(lent_heap h, const twin *request, const twin *source);
+poheldu_answer call_serve(lent_heap h, const twin *request, const twin *source, const twin *page);
+void call_read(lent_heap h, uint32_t offset, uint32_t count, const twin *page);
 void call_vote(const twin *blocks, size_t replicas, size_t block_len, const twin *output);
 void call_metadata_length(size_t heap_len);
 
-/* Whether every refusal, every operation served and the walk have come. */
+/* Whether every refusal, every operation served, the walk and every kind of part shown have come. */
 bool calls_saw_all(void);
 
 /* Says on standard error what came, and how often. */

@@ -18,7 +18,7 @@ static const size_t region_lengths[REGIONS] = {1024, 4096, 2048, 8192};
 
 static struct {
     twin heaps[REGIONS], metadata[REGIONS];
-    twin request, source, blocks, output;
+    twin request, source, page, blocks, output;
 } made;
 
 /* ---- steps */
@@ -62,7 +62,7 @@ static void cut_or_stretch(choices *c, twin *t)
     }
 }
 
-/* One call whose heap, metadata or both have another length: seeds and request may be wrong too, and what is refused first shows. */
+/* One call whose heap, metadata or both have another length: seeds, request or offset may be wrong too, and what is refused first shows. */
 static void wrong_lengths(run *r)
 {
     const size_t heap_len = r->lent.heap->len, metadata_len = r->lent.metadata->len;
@@ -71,10 +71,13 @@ static void wrong_lengths(run *r)
         cut_or_stretch(&r->input, r->lent.metadata);
     if (which == 1 || which == 2)
         cut_or_stretch(&r->input, r->lent.heap);
-    if (below(&r->input, 2) == 0)
+    const uint32_t call = below(&r->input, 3);
+    if (call == 0)
         serve_any(r);
-    else
+    else if (call == 1)
         open_any(r);
+    else
+        read_any(r);
     twin_lend(r->lent.heap, heap_len);
     twin_lend(r->lent.metadata, metadata_len);
 }
@@ -112,6 +115,10 @@ static void step(run *r)
     case 8:
         vote_any(r);
         break;
+    case 9:
+    case 10:
+        read_any(r);
+        break;
     default:
         serve_any(r);
     }
@@ -128,6 +135,7 @@ static void make_buffers(void)
     }
     made.request = twin_new("request", LONGEST_REQUEST);
     made.source = twin_new("source", LONGEST_SOURCE);
+    made.page = twin_new("page", LONGEST_PAGE);
     made.blocks = twin_new("blocks", MOST_REPLICAS * LONGEST_BLOCK);
     made.output = twin_new("output", LONGEST_OUTPUT);
 }
@@ -151,11 +159,13 @@ static run new_run(const uint8_t *data, size_t size)
     place(&made.source, (ends & 8) == 0, 0);
     place(&made.blocks, (ends & 16) == 0, 0);
     place(&made.output, (ends & 32) == 0, 0);
+    place(&made.page, (ends & 64) == 0, 0);
     return (run){.input = input,
                  .region = region,
                  .lent = {&made.heaps[which], &made.metadata[which]},
                  .request = &made.request,
                  .source = &made.source,
+                 .page = &made.page,
                  .blocks = &made.blocks,
                  .output = &made.output};
 }

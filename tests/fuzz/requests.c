@@ -126,6 +126,34 @@ static void make_source(run *r)
         twin_set(r->source, below(c, (uint32_t)len), 0);
 }
 
+/* ---- what a read takes */
+
+/* Empty, about as long as a slot, or short; it stays lent to the requests that follow. */
+static void make_page(run *r)
+{
+    static const uint32_t few[] = {0, 0, 1, 2, 7};
+    choices *const c = &r->input;
+    const uint32_t kind = below(c, 4);
+    if (kind == 0)
+        twin_lend(r->page, PICK(c, few));
+    else if (kind == 1)
+        twin_lend(r->page, around(c, slot_size(below(c, 8)))); /* at most LONGEST_PAGE */
+    else
+        twin_lend(r->page, below(c, 64));
+    twin_fill(r->page, next_byte(c));
+}
+
+/* About as many bytes as the slot has from an offset on, or as the page has, or any number. */
+static uint32_t wanted_count(run *r, uint32_t offset)
+{
+    const uint32_t class = offset / (uint32_t)r->region, kind = below(&r->input, 4);
+    if (kind == 0 && class < CLASSES)
+        return (uint32_t)around(&r->input, slot_size(class) - offset % slot_size(class));
+    if (kind == 1)
+        return (uint32_t)around(&r->input, r->page->len);
+    return any_count(&r->input);
+}
+
 /* ---- requests */
 
 static void pack(twin *request, uint32_t operation, uint32_t argument, uint32_t count)
@@ -146,30 +174,43 @@ static void damage(choices *c, twin *request)
     if (kind == 0)
         twin_lend(request, PICK(c, lengths));
     else if (kind == 1)
-        twin_set(request, 0, (uint8_t)(COPY_PADDED + below(c, 251)));
+        twin_set(request, 0, (uint8_t)(READ + below(c, 250)));
     else
         twin_set(request, at, next_byte(c));
 }
 
 static void serve(run *r)
 {
-    const poheldu_answer a = call_serve(r->lent, r->request, r->source);
+    const poheldu_answer a = call_serve(r->lent, r->request, r->source, r->page);
     if (a.number == POHELDU_SERVED && twin_ours(r->request)[0] == ALLOCATE)
         r->placed[r->placements++ % REMEMBERED] = a.value;
 }
 
 void serve_any(run *r)
 {
-    static const uint32_t operations[] = {ALLOCATE, ALLOCATE,  ALLOCATE,  ALLOCATE,   ALLOCATE,   FREE,        FREE,        FREE,
-                                          FREE,     REMAINING, REMAINING, COPY_BYTES, COPY_BYTES, COPY_STRING, COPY_STRING, COPY_PADDED};
+    static const uint32_t operations[] = {ALLOCATE,  ALLOCATE,   ALLOCATE,   ALLOCATE,    ALLOCATE,    FREE,        FREE, FREE, FREE, REMAINING,
+                                          REMAINING, COPY_BYTES, COPY_BYTES, COPY_STRING, COPY_STRING, COPY_PADDED, READ, READ};
     const uint32_t operation = PICK(&r->input, operations);
     const uint32_t argument = operation == ALLOCATE ? any_size(&r->input) : any_offset(r);
-    pack(r->request, operation, argument, operation == COPY_PADDED ? any_count(&r->input) : 0);
+    uint32_t count = 0;
+    if (operation == READ) {
+        make_page(r);
+        count = wanted_count(r, argument);
+    } else if (operation >= COPY_BYTES) {
+        make_source(r);
+        count = operation == COPY_PADDED ? any_count(&r->input) : 0;
+    }
+    pack(r->request, operation, argument, count);
     if (below(&r->input, 24) == 1)
         damage(&r->input, r->request);
-    if (operation >= COPY_BYTES)
-        make_source(r);
     serve(r);
+}
+
+void read_any(run *r)
+{
+    const uint32_t offset = any_offset(r);
+    make_page(r);
+    call_read(r->lent, offset, wanted_count(r, offset), r->page);
 }
 
 void allocate_some(run *r, uint32_t class, uint32_t times)

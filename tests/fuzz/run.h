@@ -5,13 +5,14 @@
 #include "calls.h"
 #include "choices.h"
 
-enum { ALLOCATE, FREE, REMAINING, COPY_BYTES, COPY_STRING, COPY_PADDED };
+enum { ALLOCATE, FREE, REMAINING, COPY_BYTES, COPY_STRING, COPY_PADDED, READ };
 
 enum {
     CLASSES = 12,
     LARGEST_SIZE = 16384,
     LONGEST_REQUEST = 40,
     LONGEST_SOURCE = LARGEST_SIZE + 256,
+    LONGEST_PAGE = 1025,
     MOST_REPLICAS = 17,
     LONGEST_BLOCK = 4097,
     LONGEST_OUTPUT = LONGEST_BLOCK + 64,
@@ -22,7 +23,7 @@ typedef struct {
     choices input;
     size_t region; /* the length of a class's region */
     lent_heap lent;
-    twin *request, *source, *blocks, *output;
+    twin *request, *source, *page, *blocks, *output;
     uint32_t placed[REMEMBERED]; /* offsets that allocations gave, freed ones too */
     size_t placements;
 } run;
@@ -48,8 +49,9 @@ void damage_metadata(run *r);
 /* Opens, and sets those slots that the next draws test: chance hardly comes to a walk in the midst of a bitmap. The class of these slots. */
 uint32_t set_trap(run *r);
 
-/* Requests (requests.c): any; some allocations of one class's size. */
+/* Requests (requests.c): any; a read with plain arguments; some allocations of one class's size. */
 void serve_any(run *r);
+void read_any(run *r);
 void allocate_some(run *r, uint32_t class, uint32_t times);
 
 /* Votes (votes.c). */

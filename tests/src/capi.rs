@@ -1,7 +1,7 @@
 //! The proved library's C interface, with safe wrappers over slices.
 //! All unsafe code of this package is here and in `exported`.
 
-use crate::reference::{Answer, Verdict};
+use crate::reference::{Answer, Part, Verdict};
 
 extern "C" {
     fn poheldu_open(
@@ -22,7 +22,20 @@ extern "C" {
         request_len: usize,
         source: *const u8,
         source_len: usize,
+        page: *const u8,
+        page_len: usize,
     ) -> Answer;
+
+    fn poheldu_read(
+        heap: *const u8,
+        heap_len: usize,
+        metadata: *const u8,
+        metadata_len: usize,
+        offset: u32,
+        count: u32,
+        page: *const u8,
+        page_len: usize,
+    ) -> Part;
 
     fn poheldu_vote(
         blocks: *const u8,
@@ -67,8 +80,19 @@ pub fn open(heap: &[u8], metadata: &mut [u8], z: u32, w: u32) -> Answer {
 }
 
 #[inline]
-pub fn serve(heap: &mut [u8], metadata: &mut [u8], request: &[u8], source: &[u8]) -> Answer {
-    serve_with(Empty::Dangling, heap, metadata, request, source)
+pub fn serve(
+    heap: &mut [u8],
+    metadata: &mut [u8],
+    request: &[u8],
+    source: &[u8],
+    page: &[u8],
+) -> Answer {
+    serve_with(Empty::Dangling, heap, metadata, request, source, page)
+}
+
+#[inline]
+pub fn read(heap: &[u8], metadata: &[u8], offset: u32, count: u32, page: &[u8]) -> Part {
+    read_with(Empty::Dangling, heap, metadata, offset, count, page)
 }
 
 #[inline]
@@ -99,6 +123,7 @@ pub fn serve_with(
     metadata: &mut [u8],
     request: &[u8],
     source: &[u8],
+    page: &[u8],
 ) -> Answer {
     // SAFETY: each pointer is valid for its length, or the length is 0;
     // the slices do not overlap where one of them is mutable.
@@ -112,6 +137,34 @@ pub fn serve_with(
             request.len(),
             empty.shared(source),
             source.len(),
+            empty.shared(page),
+            page.len(),
+        )
+    }
+}
+
+/// `read`, with empty slices passed as `empty` says.
+#[inline]
+pub fn read_with(
+    empty: Empty,
+    heap: &[u8],
+    metadata: &[u8],
+    offset: u32,
+    count: u32,
+    page: &[u8],
+) -> Part {
+    // SAFETY: each pointer is valid for its length, or the length is 0;
+    // `offset` and `count` are mere numbers that the library judges.
+    unsafe {
+        poheldu_read(
+            empty.shared(heap),
+            heap.len(),
+            empty.shared(metadata),
+            metadata.len(),
+            offset,
+            count,
+            empty.shared(page),
+            page.len(),
         )
     }
 }

@@ -2,12 +2,28 @@
 //! side, and compares the answers and every byte of every buffer.
 
 use crate::capi::{self, Empty};
-use crate::reference::{self, Answer, Verdict};
+use crate::inputs;
+use crate::reference::{self, Answer, Part, Verdict};
 use std::fmt::{self, Debug, Display};
 
 const GUARD: u8 = 0xA5;
 const MOST_BYTES_SHOWN: usize = 4_096;
 const REFUSALS: usize = 13;
+const OPERATIONS: usize = 7;
+const BUFFERS: usize = 7;
+const KINDS: usize = 8;
+
+/// The kinds of reads that are told apart, in the order they are counted in.
+pub const READ_KINDS: [&str; KINDS] = [
+    "of the heap",
+    "clipped at the object's end",
+    "of nothing over an object",
+    "of the page",
+    "clipped at the page's end",
+    "refused with 2",
+    "refused with 3",
+    "refused with 8",
+];
 
 /// Two equal buffers, one for each implementation. Guard bytes around them
 /// show a write outside; without guards, valgrind sees a read outside too.
@@ -72,22 +88,54 @@ impl Twin {
     }
 }
 
+/// A request and what is lent beside it.
+pub struct Lent {
+    pub request: Twin,
+    pub source: Twin,
+    pub page: Twin,
+}
+
+impl Lent {
+    pub fn new(request: &[u8], source: &[u8], page: &[u8], guard: usize) -> Lent {
+        Lent {
+            request: Twin::new(request, guard),
+            source: Twin::new(source, guard),
+            page: Twin::new(page, guard),
+        }
+    }
+
+    fn named(&self) -> [(&str, &Twin); 3] {
+        [
+            ("request", &self.request),
+            ("source", &self.source),
+            ("page", &self.page),
+        ]
+    }
+}
+
 /// What a call was given, for the message about a difference.
-enum Call<'a> {
+struct Call<'a> {
+    name: Name,
+    /// What buffers held before the call.
+    buffers: &'a [(&'a str, &'a [u8])],
+}
+
+/// The call's name and its numbers.
+enum Name {
     Open {
         heap_len: usize,
-        metadata: &'a [u8],
         z: u32,
         w: u32,
     },
     Serve {
         heap_len: usize,
-        metadata: &'a [u8],
-        request: &'a [u8],
-        source: &'a [u8],
+    },
+    Read {
+        heap_len: usize,
+        offset: u32,
+        count: u32,
     },
     Vote {
-        blocks: &'a [u8],
         replicas: usize,
         block_len: usize,
         output_len: usize,
@@ -108,41 +156,72 @@ impl Display for Hex<'_> {
     }
 }
 
-impl Display for Call<'_> {
+impl Display for Name {
     fn fmt(&self, f: &mut fmt::Formatter) -> fmt::Result {
         match *self {
-            Call::Open {
-                heap_len,
-                metadata,
-                z,
-                w,
-            } => {
-                writeln!(f, "open z={z:#x} w={w:#x}, heap of {heap_len} bytes")?;
-                write!(f, "metadata before, {}", Hex(metadata))
+            Name::Open { heap_len, z, w } => {
+                write!(f, "open z={z:#x} w={w:#x}, heap of {heap_len} bytes")
             }
-            Call::Serve {
+            Name::Serve { heap_len } => write!(f, "serve, heap of {heap_len} bytes"),
+            Name::Read {
                 heap_len,
-                metadata,
-                request,
-                source,
+                offset,
+                count,
             } => {
-                writeln!(f, "serve, heap of {heap_len} bytes")?;
-                writeln!(f, "metadata before, {}", Hex(metadata))?;
-                writeln!(f, "request, {}", Hex(request))?;
-                write!(f, "source, {}", Hex(source))
+                write!(f, "read offset={offset} count={count}, ")?;
+                write!(f, "heap of {heap_len} bytes")
             }
-            Call::Vote {
-                blocks,
+            Name::Vote {
                 replicas,
                 block_len,
                 output_len,
             } => {
                 writeln!(f, "vote replicas={replicas} block_len={block_len}")?;
-                writeln!(f, "output of {output_len} bytes")?;
-                write!(f, "blocks, {}", Hex(blocks))
+                write!(f, "output of {output_len} bytes")
             }
-            Call::MetadataLength(heap_len) => write!(f, "metadata_length {heap_len}"),
+            Name::MetadataLength(heap_len) => write!(f, "metadata_length {heap_len}"),
         }
+    }
+}
+
+impl Display for Call<'_> {
+    fn fmt(&self, f: &mut fmt::Formatter) -> fmt::Result {
+        write!(f, "{}", self.name)?;
+        for (name, bytes) in self.buffers {
+            write!(f, "\n{name}, {}", Hex(bytes))?;
+        }
+        Ok(())
+    }
+}
+
+/// One request by both: the second implementation's answer, and the library's.
+fn serve_both(
+    empty: Empty,
+    heap: &mut Twin,
+    metadata: &mut Twin,
+    lent: &mut Lent,
+) -> (Answer, Answer) {
+    let (heap_a, heap_b) = heap.parts();
+    let (metadata_a, metadata_b) = metadata.parts();
+    let (request_a, request_b) = lent.request.parts();
+    let (source_a, source_b) = lent.source.parts();
+    let (page_a, page_b) = lent.page.parts();
+    (
+        reference::serve(heap_a, metadata_a, request_a, source_a, page_a),
+        capi::serve_with(empty, heap_b, metadata_b, request_b, source_b, page_b),
+    )
+}
+
+/// Which of `READ_KINDS` a read of `count` bytes was.
+fn read_kind(part: Part, count: u32) -> usize {
+    let clipped = usize::from(part.value < count);
+    match (part.number, part.of_page) {
+        (0, 0) if count == 0 => 2,
+        (0, 0) => clipped,
+        (0, _) => 3 + clipped,
+        (2, _) => 5,
+        (3, _) => 6,
+        _ => 7,
     }
 }
 
@@ -153,13 +232,20 @@ pub struct Tester {
     /// Answers by refusal number.
     pub counts: [u64; REFUSALS],
     /// Served requests by operation.
-    pub served: [u64; 6],
+    pub served: [u64; OPERATIONS],
+    /// Reads by their own call, of each kind.
+    pub read_calls: [u64; KINDS],
+    /// Reads as requests, of each kind.
+    pub read_requests: [u64; KINDS],
+    /// Requests refused for one thing alone: operation 7, a count for operation 4.
+    pub malformed: [u64; 2],
     /// Allocations that took a slot that was not drawn.
     pub walks: u64,
     /// Walks that went past the last slot.
     pub wraps: u64,
-    /// Empty buffers passed as NULL: heap, metadata, request, source, blocks, output.
-    pub nulls: [u64; 6],
+    /// Empty buffers passed as NULL: heap, metadata, request, source, page,
+    /// blocks, output.
+    pub nulls: [u64; BUFFERS],
     before: Vec<u8>,
 }
 
@@ -169,10 +255,13 @@ impl Tester {
             seed,
             calls: 0,
             counts: [0; REFUSALS],
-            served: [0; 6],
+            served: [0; OPERATIONS],
+            read_calls: [0; KINDS],
+            read_requests: [0; KINDS],
+            malformed: [0; 2],
             walks: 0,
             wraps: 0,
-            nulls: [0; 6],
+            nulls: [0; BUFFERS],
             before: Vec::new(),
         }
     }
@@ -184,55 +273,78 @@ impl Tester {
         let (metadata_a, metadata_b) = metadata.parts();
         let expected = reference::open(heap_a, metadata_a, z, w);
         let answer = capi::open_with(empty, heap_b, metadata_b, z, w);
-        let call = Call::Open {
-            heap_len: heap.shown,
-            metadata: &self.before,
-            z,
-            w,
+        let heap_len = heap.shown;
+        let call = Call {
+            name: Name::Open { heap_len, z, w },
+            buffers: &[("metadata before", &self.before)],
         };
         self.check(&call, expected, answer);
-        self.check_bytes(&call, "heap", heap);
-        self.check_bytes(&call, "metadata", metadata);
+        self.check_bytes(&call, &[("heap", heap), ("metadata", metadata)]);
         self.counts[answer.number as usize] += 1;
         answer
     }
 
-    pub fn serve(
+    pub fn serve(&mut self, heap: &mut Twin, metadata: &mut Twin, lent: &mut Lent) -> Answer {
+        let empty = self.next_call(metadata.bytes());
+        self.count_nulls(empty, &[(0, heap), (1, metadata)]);
+        self.count_nulls(
+            empty,
+            &[(2, &lent.request), (3, &lent.source), (4, &lent.page)],
+        );
+        let (expected, answer) = serve_both(empty, heap, metadata, lent);
+        let heap_len = heap.shown;
+        let call = Call {
+            name: Name::Serve { heap_len },
+            buffers: &[
+                ("metadata before", &self.before),
+                ("request", lent.request.bytes()),
+                ("source", lent.source.bytes()),
+                ("page", lent.page.bytes()),
+            ],
+        };
+        self.check(&call, expected, answer);
+        self.check_bytes(&call, &[("heap", heap), ("metadata", metadata)]);
+        self.check_bytes(&call, &lent.named());
+        self.counts[answer.number as usize] += 1;
+        if answer.number == 0 {
+            let operation = lent.request.bytes()[0];
+            self.count_served(operation, heap, metadata, answer.value);
+        }
+        self.count_request(heap, metadata, lent, answer);
+        answer
+    }
+
+    pub fn read(
         &mut self,
         heap: &mut Twin,
         metadata: &mut Twin,
-        request: &mut Twin,
-        source: &mut Twin,
-    ) -> Answer {
+        offset: u32,
+        count: u32,
+        page: &mut Twin,
+    ) -> Part {
         let empty = self.next_call(metadata.bytes());
-        self.count_nulls(
-            empty,
-            &[(0, heap), (1, metadata), (2, request), (3, source)],
-        );
-        let expected = {
-            let (heap, metadata) = (heap.parts().0, metadata.parts().0);
-            reference::serve(heap, metadata, request.parts().0, source.parts().0)
-        };
-        let answer = {
-            let (heap, metadata) = (heap.parts().1, metadata.parts().1);
-            capi::serve_with(empty, heap, metadata, request.parts().1, source.parts().1)
-        };
-        let call = Call::Serve {
+        self.count_nulls(empty, &[(0, heap), (1, metadata), (4, page)]);
+        let (heap_a, heap_b) = heap.parts();
+        let (metadata_a, metadata_b) = metadata.parts();
+        let (page_a, page_b) = page.parts();
+        let expected = reference::read(heap_a, metadata_a, offset, count, page_a);
+        let part = capi::read_with(empty, heap_b, metadata_b, offset, count, page_b);
+        let name = Name::Read {
             heap_len: heap.shown,
-            metadata: &self.before,
-            request: request.bytes(),
-            source: source.bytes(),
+            offset,
+            count,
         };
-        self.check(&call, expected, answer);
-        self.check_bytes(&call, "heap", heap);
-        self.check_bytes(&call, "metadata", metadata);
-        self.check_bytes(&call, "request", request);
-        self.check_bytes(&call, "source", source);
-        self.counts[answer.number as usize] += 1;
-        if answer.number == 0 {
-            self.count_served(request.bytes()[0], heap, metadata, answer.value);
-        }
-        answer
+        let call = Call {
+            name,
+            buffers: &[("metadata before", &self.before), ("page", page.bytes())],
+        };
+        self.check(&call, expected, part);
+        self.check_part(&call, part, heap, page);
+        let twins = [("heap", &*heap), ("metadata", metadata), ("page", page)];
+        self.check_bytes(&call, &twins);
+        self.counts[part.number as usize] += 1;
+        self.read_calls[read_kind(part, count)] += 1;
+        part
     }
 
     pub fn vote(
@@ -243,20 +355,22 @@ impl Tester {
         output: &mut Twin,
     ) -> Verdict {
         let empty = self.next_call(&[]);
-        self.count_nulls(empty, &[(4, blocks), (5, output)]);
+        self.count_nulls(empty, &[(5, blocks), (6, output)]);
         let (blocks_a, blocks_b) = blocks.parts();
         let (output_a, output_b) = output.parts();
         let expected = reference::vote(blocks_a, replicas, block_len, output_a);
         let verdict = capi::vote_with(empty, blocks_b, replicas, block_len, output_b);
-        let call = Call::Vote {
-            blocks: blocks.bytes(),
+        let name = Name::Vote {
             replicas,
             block_len,
             output_len: output.shown,
         };
+        let call = Call {
+            name,
+            buffers: &[("blocks", blocks.bytes())],
+        };
         self.check_verdict(&call, expected, verdict);
-        self.check_bytes(&call, "blocks", blocks);
-        self.check_bytes(&call, "output", output);
+        self.check_bytes(&call, &[("blocks", blocks), ("output", output)]);
         self.counts[verdict.number as usize] += 1;
         verdict
     }
@@ -265,7 +379,11 @@ impl Tester {
         self.next_call(&[]);
         let expected = reference::metadata_length(heap_len);
         let length = capi::metadata_length(heap_len);
-        self.check(&Call::MetadataLength(heap_len), expected, length);
+        let call = Call {
+            name: Name::MetadataLength(heap_len),
+            buffers: &[],
+        };
+        self.check(&call, expected, length);
         length
     }
 
@@ -281,7 +399,7 @@ impl Tester {
         }
     }
 
-    fn count_nulls(&mut self, empty: Empty, buffers: &[(usize, &mut Twin)]) {
+    fn count_nulls(&mut self, empty: Empty, buffers: &[(usize, &Twin)]) {
         for (at, twin) in buffers {
             if empty == Empty::Null && twin.shown == 0 {
                 self.nulls[*at] += 1;
@@ -293,6 +411,21 @@ impl Tester {
         self.served[usize::from(operation)] += 1;
         if operation == 0 {
             self.count_walk(heap.shown / 12, metadata.bytes(), value as usize);
+        }
+    }
+
+    /// Counts reads, whose kind the second implementation tells, and requests
+    /// with one thing wrong.
+    fn count_request(&mut self, heap: &Twin, metadata: &Twin, lent: &Lent, answer: Answer) {
+        match (inputs::words(lent.request.bytes()), answer.number) {
+            (Some([6, offset, count, 0]), _) => {
+                let (heap, page) = (heap.bytes(), lent.page.bytes());
+                let part = reference::read(heap, metadata.bytes(), offset, count, page);
+                self.read_requests[read_kind(part, count)] += 1;
+            }
+            (Some([7, _, _, 0]), 4) => self.malformed[0] += 1,
+            (Some([4, _, _, 0]), 4) => self.malformed[1] += 1,
+            _ => (),
         }
     }
 
@@ -332,9 +465,23 @@ impl Tester {
         }
     }
 
-    fn check_bytes(&self, call: &Call, name: &str, twin: &Twin) {
-        if let Some(difference) = twin.first_difference() {
-            self.fail(call, &format!("{name}: {difference}"));
+    /// What a read shows lies within the buffer that it is said to be a part of.
+    fn check_part(&self, call: &Call, part: Part, heap: &Twin, page: &Twin) {
+        let whole = match part.of_page {
+            0 => heap.shown,
+            1 => page.shown,
+            _ => self.fail(call, &format!("neither heap nor page: {part:?}")),
+        };
+        if part.start as usize + part.value as usize > whole {
+            self.fail(call, &format!("past the end of {whole} bytes: {part:?}"));
+        }
+    }
+
+    fn check_bytes(&self, call: &Call, twins: &[(&str, &Twin)]) {
+        for (name, twin) in twins {
+            if let Some(difference) = twin.first_difference() {
+                self.fail(call, &format!("{name}: {difference}"));
+            }
         }
     }
 

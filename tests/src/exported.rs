@@ -1,7 +1,7 @@
 //! The second implementation for C: the functions of include/poheldu.h, under
 //! names of their own, for the fuzzer to hold against the library's.
 
-use crate::reference::{self, Answer, Verdict};
+use crate::reference::{self, Answer, Part, Verdict};
 
 /// # Safety
 /// `bytes` is valid for `len` bytes, or `len` is 0.
@@ -47,12 +47,37 @@ pub unsafe extern "C" fn reference_serve(
     request_len: usize,
     source: *const u8,
     source_len: usize,
+    page: *const u8,
+    page_len: usize,
 ) -> Answer {
     reference::serve(
         unique(heap, heap_len),
         unique(metadata, metadata_len),
         shared(request, request_len),
         shared(source, source_len),
+        shared(page, page_len),
+    )
+}
+
+/// # Safety
+/// As include/poheldu.h asks of `poheldu_read`.
+#[no_mangle]
+pub unsafe extern "C" fn reference_read(
+    heap: *const u8,
+    heap_len: usize,
+    metadata: *const u8,
+    metadata_len: usize,
+    offset: u32,
+    count: u32,
+    page: *const u8,
+    page_len: usize,
+) -> Part {
+    reference::read(
+        shared(heap, heap_len),
+        shared(metadata, metadata_len),
+        offset,
+        count,
+        shared(page, page_len),
     )
 }
 

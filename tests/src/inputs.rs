@@ -68,12 +68,19 @@ pub fn request(operation: u8, argument: u32, count: u32) -> [u8; 16] {
     bytes
 }
 
+/// The four words of a request that is as long as one.
+pub fn words(request: &[u8]) -> Option<[u32; 4]> {
+    let request: &[u8; 16] = request.try_into().ok()?;
+    let word = |at: usize| u32::from_le_bytes([0, 1, 2, 3].map(|byte| request[at + byte]));
+    Some([word(0), word(4), word(8), word(12)])
+}
+
 /// A request with something wrong in it (or, rarely, nothing).
 pub fn damaged_request(rng: &mut Random, good: [u8; 16]) -> Vec<u8> {
     let mut bytes = good.to_vec();
     match rng.below(5) {
         0 => bytes.resize(rng.pick(&[0, 1, 4, 8, 15, 17, 32, 40]), 0),
-        1 => bytes[0] = rng.pick(&[6, 7, 16, 64, 128, 129, 255]),
+        1 => bytes[0] = rng.pick(&[7, 7, 8, 16, 64, 128, 129, 255]),
         2 => bytes[0] = rng.byte(),
         3 => rng.fill(&mut bytes),
         _ => {
@@ -172,6 +179,21 @@ pub fn source(rng: &mut Random) -> Vec<u8> {
     let mut bytes = rng.bytes(len);
     place_zeros(rng, &mut bytes);
     bytes
+}
+
+/// A page to show where nothing is live: empty, short, or longer than any slot.
+pub fn page(rng: &mut Random) -> Vec<u8> {
+    let size = slot_size(rng.below(CLASSES));
+    let len = match rng.below(16) {
+        0..=2 => 0,
+        3 => rng.between(16_384, 20_000),
+        4 => size,
+        5 => size + 1,
+        6 => size - 1,
+        7 => rng.below(size + 1),
+        _ => rng.below(40),
+    };
+    rng.bytes(len)
 }
 
 fn place_zeros(rng: &mut Random, bytes: &mut [u8]) {

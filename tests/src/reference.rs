@@ -27,6 +27,36 @@ pub struct Answer {
     pub value: u32,
 }
 
+/// What `read` answers: `value` bytes from `start` on, of the page where
+/// `of_page` is 1, else of the heap.
+#[derive(Clone, Copy, Debug, PartialEq, Eq)]
+#[repr(C)]
+pub struct Part {
+    pub number: u32,
+    pub value: u32,
+    pub of_page: u32,
+    pub start: u32,
+}
+
+impl Part {
+    fn front_of_page(length: u32) -> Part {
+        Part {
+            number: 0,
+            value: length,
+            of_page: 1,
+            start: 0,
+        }
+    }
+
+    /// The empty part of the page.
+    fn refused(refusal: Refusal) -> Part {
+        Part {
+            number: refusal as u32,
+            ..Part::front_of_page(0)
+        }
+    }
+}
+
 /// What `vote` answers; `value` counts the winners, `replica` is one of them.
 #[derive(Clone, Copy, Debug, PartialEq, Eq)]
 #[repr(C)]
@@ -72,9 +102,23 @@ pub fn open(heap: &[u8], metadata: &mut [u8], z: u32, w: u32) -> Answer {
     try_open(heap, metadata, z, w).into()
 }
 
-/// Serves one request.
-pub fn serve(heap: &mut [u8], metadata: &mut [u8], request: &[u8], source: &[u8]) -> Answer {
-    try_serve(heap, metadata, request, source).into()
+/// Serves one request. Copies take from the source; a read where nothing is
+/// live shows the page.
+pub fn serve(
+    heap: &mut [u8],
+    metadata: &mut [u8],
+    request: &[u8],
+    source: &[u8],
+    page: &[u8],
+) -> Answer {
+    try_serve(heap, metadata, request, source, page).into()
+}
+
+/// Says where the bytes of a read lie. Nothing is copied.
+pub fn read(heap: &[u8], metadata: &[u8], offset: u32, count: u32, page: &[u8]) -> Part {
+    Layout::of_lengths(heap.len(), metadata.len())
+        .and_then(|layout| show(layout, metadata, offset, count, page))
+        .unwrap_or_else(Part::refused)
 }
 
 /// Finds the content that most replicas share and copies it to the output.
@@ -115,6 +159,7 @@ fn try_serve(
     metadata: &mut [u8],
     request: &[u8],
     source: &[u8],
+    page: &[u8],
 ) -> Result<u32, Refusal> {
     let layout = Layout::of_lengths(heap.len(), metadata.len())?;
     match Request::read(request)? {
@@ -133,6 +178,10 @@ fn try_serve(
             let target = lend(layout, heap, metadata, offset)?;
             Ok(copy_padded(target, source, count))
         }
+        Request::Read { offset, count } => {
+            let part = show(layout, metadata, offset, count, page)?;
+            Ok(part.value)
+        }
     }
 }
 
@@ -146,6 +195,7 @@ enum Request {
     CopyBytes { offset: u32 },
     CopyString { offset: u32 },
     CopyPadded { offset: u32, count: u32 },
+    Read { offset: u32, count: u32 },
 }
 
 impl Request {
@@ -165,6 +215,7 @@ impl Request {
             (3, 0) => Ok(Request::CopyBytes { offset }),
             (4, 0) => Ok(Request::CopyString { offset }),
             (5, _) => Ok(Request::CopyPadded { offset, count }),
+            (6, _) => Ok(Request::Read { offset, count }),
             _ => Err(Refusal::MalformedRequest),
         }
     }
@@ -394,6 +445,26 @@ fn remaining(layout: Layout, metadata: &[u8], offset: u32) -> Result<u32, Refusa
     Ok(layout.slot_start(slot) + (1 << slot_shift(slot.class)) - offset)
 }
 
+/// The part that a read shows: of the live object at the offset, clipped at
+/// its end, or the front of the page where nothing is live.
+fn show(
+    layout: Layout,
+    metadata: &[u8],
+    offset: u32,
+    count: u32,
+    page: &[u8],
+) -> Result<Part, Refusal> {
+    Ok(match remaining(layout, metadata, offset)? {
+        0 => Part::front_of_page(page.len().min(count as usize) as u32),
+        space => Part {
+            number: 0,
+            value: space.min(count),
+            of_page: 0,
+            start: offset,
+        },
+    })
+}
+
 /// The part of the heap that a copy may write.
 fn lend<'heap>(
     layout: Layout,
@@ -515,11 +586,49 @@ mod tests {
         }
 
         fn run(&mut self, operation: u8, argument: u32, count: u32, source: &[u8]) -> Answer {
-            let mut request = [0; 16];
-            request[0] = operation;
-            request[4..8].copy_from_slice(&argument.to_le_bytes());
-            request[8..12].copy_from_slice(&count.to_le_bytes());
-            serve(&mut self.heap, &mut self.metadata, &request, source)
+            let request = request(operation, argument, count);
+            self.serve(&request, source, &[])
+        }
+
+        fn serve(&mut self, request: &[u8], source: &[u8], page: &[u8]) -> Answer {
+            serve(&mut self.heap, &mut self.metadata, request, source, page)
+        }
+
+        /// A read, by its own call and as a request: both say the same, and
+        /// neither writes.
+        fn read(&mut self, offset: u32, count: u32, page: &[u8]) -> Part {
+            let part = read(&self.heap, &self.metadata, offset, count, page);
+            let (heap, metadata) = (self.heap.clone(), self.metadata.clone());
+            let answer = self.serve(&request(6, offset, count), b"text", page);
+            assert_eq!((answer.number, answer.value), (part.number, part.value));
+            assert_eq!((&self.heap, &self.metadata), (&heap, &metadata));
+            part
+        }
+    }
+
+    fn request(operation: u8, argument: u32, count: u32) -> [u8; 16] {
+        let mut request = [0; 16];
+        request[0] = operation;
+        request[4..8].copy_from_slice(&argument.to_le_bytes());
+        request[8..12].copy_from_slice(&count.to_le_bytes());
+        request
+    }
+
+    fn of_heap(start: u32, value: u32) -> Part {
+        Part {
+            number: 0,
+            value,
+            of_page: 0,
+            start,
+        }
+    }
+
+    fn of_page(number: u32, value: u32) -> Part {
+        Part {
+            number,
+            value,
+            of_page: 1,
+            start: 0,
         }
     }
 
@@ -587,6 +696,76 @@ mod tests {
         let mut bench = Bench::with_object();
         assert_eq!(bench.run(5, 640, 4, &[0x41, 0, 0x43]), served(4));
         assert_eq!(bench.heap[639..645], [0xEE, 0x41, 0, 0, 0, 0xEE]);
+    }
+
+    #[test]
+    fn read_is_clipped_at_the_objects_end() {
+        let mut bench = Bench::with_object();
+        assert_eq!(bench.read(640, 5, b"page"), of_heap(640, 5));
+        assert_eq!(bench.read(640, 8, b"page"), of_heap(640, 8));
+        assert_eq!(bench.read(640, 9, b"page"), of_heap(640, 8));
+        assert_eq!(bench.read(643, u32::MAX, b"page"), of_heap(643, 5));
+        assert_eq!(bench.read(647, 1, &[]), of_heap(647, 1));
+    }
+
+    #[test]
+    fn read_of_nothing_over_a_live_object() {
+        let mut bench = Bench::with_object();
+        assert_eq!(bench.read(640, 0, b"page"), of_heap(640, 0));
+        assert_eq!(bench.read(647, 0, &[]), of_heap(647, 0));
+    }
+
+    #[test]
+    fn read_where_nothing_is_live_shows_the_page() {
+        let mut bench = Bench::with_object();
+        for offset in [0, 639, 648, 11 * 4_096, HEAP as u32 - 1] {
+            assert_eq!(bench.read(offset, 0, b"page"), of_page(0, 0));
+            assert_eq!(bench.read(offset, 3, b"page"), of_page(0, 3));
+            assert_eq!(bench.read(offset, 4, b"page"), of_page(0, 4));
+            assert_eq!(bench.read(offset, 5, b"page"), of_page(0, 4));
+            assert_eq!(bench.read(offset, u32::MAX, &[]), of_page(0, 0));
+        }
+    }
+
+    #[test]
+    fn read_of_a_freed_object_shows_the_page() {
+        let mut bench = Bench::with_object();
+        assert_eq!(bench.run(1, 640, 0, &[]), served(8));
+        assert_eq!(bench.read(640, 8, b"page"), of_page(0, 4));
+    }
+
+    #[test]
+    fn page_may_be_longer_than_any_slot() {
+        let mut bench = Bench::with_object();
+        assert_eq!(bench.read(0, 20_000, &[7; 20_001]), of_page(0, 20_000));
+        assert_eq!(bench.read(640, 20_000, &[7; 20_001]), of_heap(640, 8));
+    }
+
+    #[test]
+    fn read_refuses_as_a_remaining_size_does() {
+        let mut bench = Bench::with_object();
+        for offset in [HEAP as u32, u32::MAX] {
+            assert_eq!(bench.run(2, offset, 0, &[]), refused(8));
+            assert_eq!(bench.read(offset, 4, b"page"), of_page(8, 0));
+        }
+        bench.metadata.pop();
+        assert_eq!(bench.read(640, 4, b"page"), of_page(3, 0));
+        bench.heap.pop();
+        assert_eq!(bench.read(640, 4, b"page"), of_page(2, 0));
+    }
+
+    #[test]
+    fn operations_and_counts_that_are_malformed() {
+        let mut bench = Bench::with_object();
+        for (operation, count) in [(7, 0), (7, 8), (255, 0), (4, 1), (3, 1), (2, 1)] {
+            assert_eq!(bench.run(operation, 640, count, &[]), refused(4));
+        }
+        for at in [1, 2, 3, 12, 13, 14, 15] {
+            let mut request = request(6, 640, 8);
+            request[at] = 1;
+            assert_eq!(bench.serve(&request, &[], b"page"), refused(4));
+        }
+        assert_eq!(bench.run(6, 640, 8, &[]), served(8));
     }
 
     #[test]

@@ -83,8 +83,9 @@ fn main() {
                 Turns lines of text into requests of 16 bytes, as benchrun reads them.\n\
                 \n\
                 Input: lines of at most 255 bytes that end in LF or CR LF. A line has words with spaces or tabs\n\
-                around them: place SIZE, free OFFSET, measure OFFSET, copy OFFSET, text OFFSET or counted OFFSET\n\
-                COUNT, in decimal from 0 to 4294967295. What comes after # is a comment; a line may be empty.\n\
+                around them: place SIZE, free OFFSET, measure OFFSET, copy OFFSET, text OFFSET, counted OFFSET\n\
+                COUNT or read OFFSET COUNT, in decimal from 0 to 4294967295. What comes after # is a comment; a\n\
+                line may be empty.\n\
                 Output: a request for each line that asks for one. Standard error: a message for each bad line.\n\
                 Exit status: 0 where all lines are good; 1 where a line is bad, and the good ones are written; 2\n\
                 where an argument is unknown, the input cannot be read or an output cannot be written.\n",

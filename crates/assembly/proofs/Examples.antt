@@ -7,7 +7,7 @@ use Rattle.alike.specs.Alike.{alike}
 use Rattle.bytes.specs.Bytes.{indexOf, indexAfter}
 use Rattle.line.specs.Text.{bytes, isBlank, nextWord, trimmedEnd}
 use Rattle.line.specs.Number.{more, withDigits, number}
-use Rattle.line.specs.Line.{names, operationOf, request, counted, operands, statement, readText}
+use Rattle.line.specs.Line.{operationOf, request, counted, operands, statement, readText}
 use Rattle.assembly.specs.Batch.{linesFrom, restFrom, lines, rest, messagesOf}
 use Rattle.assembly.specs.Pieces.{whole}
 use Rattle.assembly.specs.Message.{shownByte, shown, found, said, expectedOf, foundIn, expectedRoom, foundRoom}
@@ -26,12 +26,12 @@ bad-lines-named : messagesOf 9
     (map bytes ("place 5" ∷ "placed 5" ∷ "text # 5" ∷ "free\t4294967296\r" ∷ "copy 1 two" ∷ []))
     ≡ whole
     (map bytes
-    ("line 10: expected place, free, measure, copy, text or counted, found \"placed\"\n"
+    ("line 10: expected place, free, measure, copy, text, counted or read, found \"placed\"\n"
     ∷ "line 11: expected a number from 0 to 4294967295, found the end of the line\n"
     ∷ "line 12: expected a number from 0 to 4294967295, found \"4294967296\"\n"
     ∷ "line 13: expected nothing after the numbers, found \"two\"\n"
     ∷ []))
-unfolding bytes first alike indexOf indexAfter isBlank nextWord trimmedEnd more withDigits number names operationOf
+unfolding bytes first alike indexOf indexAfter isBlank nextWord trimmedEnd more withDigits number operationOf
     request counted operands statement readText messagesOf expectedOf foundIn found shown shownByte said decimalIn whole
 bad-lines-named = refl
 
@@ -53,7 +53,7 @@ unfolding bytes found shown shownByte
 words-shown = refl
 
 -- the longest texts have their room and no more
-longest-expected : length (bytes ": expected place, free, measure, copy, text or counted, found ") ≡ expectedRoom
+longest-expected : length (bytes ": expected place, free, measure, copy, text, counted or read, found ") ≡ expectedRoom
 unfolding bytes
 longest-expected = refl
 

@@ -36,7 +36,7 @@ unfoldable pub expectedOf : ℕ → Line → List ℕ
 expectedOf number (Request operation argument count) = []
 expectedOf number Nothing = []
 expectedOf number (BadOperation w) =
-    said number (bytes ": expected place, free, measure, copy, text or counted, found ")
+    said number (bytes ": expected place, free, measure, copy, text, counted or read, found ")
 expectedOf number (BadNumber w) = said number (bytes ": expected a number from 0 to 4294967295, found ")
 expectedOf number (TrailingText w) = said number (bytes ": expected nothing after the numbers, found ")
 expectedOf number TooLong = said number (bytes ": expected at most 255 bytes, found more\n")
@@ -56,7 +56,7 @@ messageOf number line read = expectedOf number read ++ foundIn line read
 
 -- the lengths of the longest text up to `found`, of what is found, and of a message: room for any
 abbrev pub expectedRoom : ℕ
-expectedRoom = 62
+expectedRoom = 68
 
 abbrev pub foundRoom : ℕ
 foundRoom = 1 + (shownMost + 5)

@@ -15,7 +15,7 @@ ghost use Rattle.assembly.specs.Message.{expectedRoom, foundRoom, messag
 const SHOWN: usize = 24;
 
 // The longest text of what was expected, and of what is found: a word between quotes, and dots after them.
-pub(crate) const EXPECTED: usize = 62;
+pub(crate) const EXPECTED: usize = 68;
 
 pub(crate) const FOUND: usize = 1 + SHOWN + 5;
 
@@ -96,7 +96,7 @@ fn say_expected(number: u64, read: Line, out: &mut [u8], at: usize) -> usize
     match read {
         Line::BadOperation(_) => say(
             number,
-            b": expected place, free, measure, copy, text or counted, found ",
+            b": expected place, free, measure, copy, text, counted or read, found ",
             out,
             at,
         ),

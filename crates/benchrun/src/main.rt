@@ -67,9 +67,9 @@ fn main() {
                 Serves requests on a heap of 49152 bytes that was opened with z = 1 and w = 1.\n\
                 \n\
                 Input: requests of 16 bytes, served as they come. A request is four little-endian words: the\n\
-                operation (0 allocate, 1 free, 2 remaining size, 3 copy bytes, 4 copy string, 5 copy padded), its\n\
-                size or offset, the count of operation 5 and otherwise 0, and 0. A last part under 16 bytes is a\n\
-                malformed request.\n\
+                operation (0 allocate, 1 free, 2 remaining size, 3 copy bytes, 4 copy string, 5 copy padded, 6\n\
+                read), its size or offset, the count of operations 5 and 6 and otherwise 0, and 0. Copies have an\n\
+                empty source and reads an empty page. A last part under 16 bytes is a malformed request.\n\
                 Output: a line for each request: its number from 1, the number of the refusal or 0, and the value.\n\
                 Exit status: 0 where the input was served to its end; 2 where an argument is unknown, the input\n\
                 cannot be read or the output cannot be written.\n",

@@ -4,12 +4,13 @@ ghost use mathlib.Core.Path.{_≡_};
 ghost use lib.ListN.{length};
 ghost use Rattle.answer.specs.Reply.{replyOf};
 ghost use Rattle.rules.specs.Open.{setup};
-ghost use Rattle.rules.specs.Serve.{lent};
-ghost use Rattle.rules.specs.Call.{call, opening};
+ghost use Rattle.rules.specs.Serve.{lentWith};
+ghost use Rattle.rules.specs.Call.{call, reading, opening};
 ghost use Rattle.vote.specs.Decide.{decide, tally, outputAfter, NamesWinner};
-ghost use Rattle.capi.specs.Numbers.{replyIn, tallyIn, metadataBytes};
+ghost use Rattle.capi.specs.Numbers.{replyIn, tallyIn, partOf, metadataBytes};
 use answer::Answer;
 use geometry::Plan;
+use rules::View;
 use vote::Verdict;
 
 #[repr(C)]
@@ -24,6 +25,14 @@ pub struct PohelduVerdict {
     pub mask: u32,
     pub value: u32,
     pub replica: u32,
+}
+
+#[repr(C)]
+pub struct PohelduPart {
+    pub number: u32,
+    pub value: u32,
+    pub of_page: u32,
+    pub start: u32,
 }
 
 fn in_numbers(answer: Answer) -> PohelduAnswer
@@ -50,14 +59,46 @@ pub extern "C" fn poheldu_serve(
     metadata: &mut [u8],
     request: &[u8],
     source: &[u8],
+    page: &[u8],
 ) -> PohelduAnswer
     ensures { λ r.
-        let beside = lent (now (source .entry)) in
+        let beside = lentWith (now (source .entry)) (now (page .entry)) in
         let called = call (length (now (heap .entry))) (now (metadata .entry)) (now (request .entry)) beside in
         ⌜ (replyIn r ≡ called .answer) × (now (metadata .exit) ≡ called .metadata)
         × (now (heap .exit) ≡ called .heap (now (heap .entry))) ⌝ }
 {
-    in_numbers(heap::serve(heap, metadata, request, source))
+    in_numbers(heap::serve(heap, metadata, request, source, page))
+}
+
+#[no_mangle]
+pub extern "C" fn poheldu_read(
+    heap: &[u8],
+    metadata: &[u8],
+    offset: u32,
+    count: u32,
+    page: &[u8],
+) -> PohelduPart
+    ensures { λ r.
+        let called = reading (length (now (heap .entry))) (now (metadata .entry)) offset count (now (page .entry)) in
+        ⌜ r ≡ partOf called ⌝ }
+{
+    let seen = heap::look(heap, metadata, offset, count, page);
+    let answer = seen.answer;
+    let view = seen.view;
+    match view {
+        View::Heap(start, _) => PohelduPart {
+            number: answer.number(),
+            value: answer.value(),
+            of_page: 0,
+            start,
+        },
+        View::Page(_) => PohelduPart {
+            number: answer.number(),
+            value: answer.value(),
+            of_page: 1,
+            start: 0,
+        },
+    }
 }
 
 #[no_mangle]

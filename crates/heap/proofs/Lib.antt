@@ -3,4 +3,5 @@ pub mod Allocating
 pub mod Live
 pub mod Freeing
 pub mod Copying
+pub mod Viewing
 pub mod Performing

@@ -3,18 +3,14 @@ use Prim.Native.Nat.{ℕ, _+_, _-_, _<_, _≤_}
 use mathlib.Core.Path.{_≡_, sym, _∙_}
 use mathlib.Core.Bool.{Bool, true, false}
 use mathlib.Core.List.{List}
-use native.Mathlib.Omega.{arith}
 use Rattle.geometry.specs.declared.Layout.{Layout}
 use Rattle.geometry.specs.declared.Location.{Location}
 use Rattle.geometry.specs.declared.Part.{Part}
-use Rattle.geometry.specs.Layout.{heapLength, slotSize, slots, locate, partOf}
-use Rattle.geometry.proofs.Geometry.{slot-size-le}
-use Rattle.geometry.proofs.Slots.{slot-ends}
+use Rattle.geometry.specs.Layout.{heapLength, slotSize, locate, partOf}
 use Rattle.bitmap.specs.Bitmap.{isSet}
-use Rattle.bitmap.proofs.Slot.{is-set}
-use Rattle.rules.specs.Metadata.{bitmapOf}
 use Rattle.heap.specs.Relied.{bitsOf}
 use Rattle.rules.specs.Object.{isLive, space}
+use Rattle.rules.proofs.Space.{space-within}
 use Rattle.heap.proofs.Part.{part-bits}
 
 -- the code tests the part that is the class's bitmap
@@ -24,26 +20,20 @@ pub tested-live : (G : Layout) (m : List ℕ) (offset : ℕ) {l : Location} {p :
     → isLive G m (locate G offset) ≡ t
 tested-live G m offset {l} at of tested = sym (tested ∙ rw (part-bits G (l .class) of m, of, at))
 
-module _ (G : Layout) (m : List ℕ) (offset : ℕ) where
-  -- a live slot is one of its class's
-  pub live-lt : isLive G m (locate G offset) ≡ true → locate G offset .slot < slots G (locate G offset .class)
-  live-lt e = is-set (bitmapOf G (locate G offset .class) m) (slots G (locate G offset .class)) (locate G offset .slot) e .0
-
+module _ (G : Layout) (m : List ℕ) (offset : ℕ) (inside : offset < heapLength G) where
   -- what is measured: the space, which is within the heap and no more than a slot
   abbrev Measured : ℕ → Type 0
   Measured r = (r ≡ space G m offset) × (offset + r ≤ heapLength G) × (r ≤ 16384)
 
   -- the space in a live slot, and where there is none
-  pub space-live : {r : ℕ} → offset < heapLength G → isLive G m (locate G offset) ≡ true
-      → r ≡ slotSize G (locate G offset .class) - locate G offset .into
+  measured : {r : ℕ} → r ≡ space G m offset → Measured r
+  measured e = let (ends, small) = space-within G m offset inside in (e, rw e ends, rw e small)
+
+  pub space-live : {r : ℕ} → isLive G m (locate G offset) ≡ true → r ≡ slotSize G (locate G offset .class) - locate G offset .into
       → Measured r
   unfolding space
-  space-live inside live e = (
-    rw (e, live),
-    rw e (slot-ends G offset (live-lt live) inside),
-    omega (arith, slot-size-le G (locate G offset .class)),
-  )
+  space-live live e = measured (e ∙ rw live)
 
-  pub space-none : offset < heapLength G → isLive G m (locate G offset) ≡ false → Measured 0
+  pub space-none : isLive G m (locate G offset) ≡ false → Measured 0
   unfolding space
-  space-none inside none = (rw none, omega arith, omega arith)
+  space-none none = measured (rw none)

@@ -8,7 +8,8 @@ use Rattle.request.specs.declared.Kind.{Kind}
 use Rattle.rules.specs.Outcome.{Outcome, metadataAfter, heapAfter}
 use Rattle.rules.specs.Allocate.{allocate}
 use Rattle.rules.specs.Object.{free, remaining, copy}
-use Rattle.rules.proofs.Results.{Comes, refuses, serves, allocate-comes, free-comes, remaining-comes, copy-comes}
+use Rattle.rules.specs.Read.{read}
+use Rattle.rules.proofs.Results.{Comes, refuses, serves, allocate-comes, free-comes, remaining-comes, copy-comes, read-comes}
 
 -- a refusal leaves the heap and the metadata alone
 heap-left : (G : Layout) (m h : List ℕ) {o o′ : Outcome} → Comes o o′ → heapAfter G m h o ≡ h → h ≡ heapAfter G m h o′
@@ -26,6 +27,9 @@ module _ (G : Layout) (m : List ℕ) where
   pub copy-metadata : (offset : ℕ) (kind : Kind) (source : List ℕ) → m ≡ metadataAfter G m (copy G m offset kind source)
   copy-metadata offset kind source = metadata-left G m (copy-comes G m offset kind source) refl
 
+  pub read-metadata : (offset count pageBytes : ℕ) → m ≡ metadataAfter G m (read G m offset count pageBytes)
+  read-metadata offset count pageBytes = metadata-left G m (read-comes G m offset count pageBytes) refl
+
   module _ (h : List ℕ) where
     pub allocate-heap : (size : ℕ) → h ≡ heapAfter G m h (allocate G m size)
     allocate-heap size = heap-left G m h (allocate-comes G m size) refl
@@ -36,3 +40,6 @@ module _ (G : Layout) (m : List ℕ) where
     -- measuring writes no bytes
     pub remaining-heap : (offset : ℕ) → h ≡ heapAfter G m h (remaining G m offset)
     remaining-heap offset = heap-left G m h (remaining-comes G m offset) (take-append-drop offset h)
+
+    pub read-heap : (offset count pageBytes : ℕ) → h ≡ heapAfter G m h (read G m offset count pageBytes)
+    read-heap offset count pageBytes = heap-left G m h (read-comes G m offset count pageBytes) refl

@@ -1,14 +1,16 @@
-// The heap: opening, six operations and one entry point.
+// The heap: opening, seven operations and one entry point for requests, and reads with plain arguments.
 mod allocate;
 mod bits;
 mod copy;
 mod fields;
 mod object;
+mod reading;
 
 use answer::Answer;
 use answer::Refusal;
 use geometry::Layout;
 use mwc::Generator;
+pub use reading::Seen;
 use request::Parsed;
 use request::Request;
 use rules::Judged;
@@ -16,10 +18,11 @@ ghost use mathlib.Core.Path.{_≡_};
 ghost use lib.ListN.{length};
 ghost use Rattle.answer.specs.Reply.{replyOf};
 ghost use Rattle.request.specs.Parse.{parse};
+ghost use Rattle.rules.specs.View.{viewBytes};
 ghost use Rattle.rules.specs.Judge.{Fits};
 ghost use Rattle.rules.specs.Open.{setup};
-ghost use Rattle.rules.specs.Serve.{lent, perform, act};
-ghost use Rattle.rules.specs.Call.{calledBy, call, opening};
+ghost use Rattle.rules.specs.Serve.{lentWith, perform, act};
+ghost use Rattle.rules.specs.Call.{calledBy, call, reading, opening};
 
 // Writes fresh metadata for a heap of this length. The heap's bytes are left alone.
 pub fn open(heap: &[u8], metadata: &mut [u8], z: u32, w: u32) -> Answer
@@ -48,10 +51,12 @@ fn perform(
     layout: Layout,
     request: Request,
     source: &[u8],
+    page: &[u8],
 ) -> Answer
     requires { ⌜ Fits layout (length (now heap)) (length (now metadata)) ⌝ }
     ensures { λ r.
-        let outcome = perform layout (now (metadata .entry)) (lent (now (source .entry))) request in
+        let beside = lentWith (now (source .entry)) (now (page .entry)) in
+        let outcome = perform layout (now (metadata .entry)) beside request in
         let called = calledBy layout (now (metadata .entry)) outcome in
         ⌜ (replyOf r ≡ called .answer) × (now (metadata .exit) ≡ called .metadata)
         × (now (heap .exit) ≡ called .heap (now (heap .entry))) ⌝ }
@@ -61,6 +66,10 @@ fn perform(
         Request::Free(offset) => object::free(metadata, layout, offset),
         Request::Remaining(offset) => object::remaining(metadata, layout, offset),
         Request::Copy(offset, kind) => copy::copy(heap, metadata, layout, offset, kind, source),
+        Request::Read(offset, count) => {
+            let seen = reading::read(metadata, layout, offset, count, page.len());
+            seen.answer
+        }
     }
 }
 
@@ -71,10 +80,12 @@ fn act(
     layout: Layout,
     request: &[u8],
     source: &[u8],
+    page: &[u8],
 ) -> Answer
     requires { ⌜ Fits layout (length (now heap)) (length (now metadata)) ⌝ }
     ensures { λ r.
-        let outcome = act layout (now (metadata .entry)) (lent (now (source .entry))) (parse (now (request .entry))) in
+        let beside = lentWith (now (source .entry)) (now (page .entry)) in
+        let outcome = act layout (now (metadata .entry)) beside (parse (now (request .entry))) in
         let called = calledBy layout (now (metadata .entry)) outcome in
         ⌜ (replyOf r ≡ called .answer) × (now (metadata .exit) ≡ called .metadata)
         × (now (heap .exit) ≡ called .heap (now (heap .entry))) ⌝ }
@@ -82,19 +93,55 @@ fn act(
     let Parsed::Whole(whole) = request::read(request) else {
         return Answer::Refused(Refusal::MalformedRequest);
     };
-    perform(heap, metadata, layout, whole, source)
+    perform(heap, metadata, layout, whole, source, page)
 }
 
 // Serves a request of any bytes on any heap and any metadata.
-pub fn serve(heap: &mut [u8], metadata: &mut [u8], request: &[u8], source: &[u8]) -> Answer
+pub fn serve(
+    heap: &mut [u8],
+    metadata: &mut [u8],
+    request: &[u8],
+    source: &[u8],
+    page: &[u8],
+) -> Answer
     ensures { λ r.
-        let beside = lent (now (source .entry)) in
+        let beside = lentWith (now (source .entry)) (now (page .entry)) in
         let called = call (length (now (heap .entry))) (now (metadata .entry)) (now (request .entry)) beside in
         ⌜ (replyOf r ≡ called .answer) × (now (metadata .exit) ≡ called .metadata)
         × (now (heap .exit) ≡ called .heap (now (heap .entry))) ⌝ }
 {
     match judge::lengths(heap.len(), metadata.len()) {
         Judged::Unfit(refusal) => Answer::Refused(refusal),
-        Judged::Laid(layout) => act(heap, metadata, layout, request, source),
+        Judged::Laid(layout) => act(heap, metadata, layout, request, source, page),
     }
+}
+
+// A read's answer, and where the bytes lie that it shows.
+pub fn look(heap: &[u8], metadata: &[u8], offset: u32, count: u32, page: &[u8]) -> Seen
+    ensures { λ r.
+        let called = reading (length (now (heap .entry))) (now (metadata .entry)) offset count (now (page .entry)) in
+        ⌜ (replyOf (r .answer) ≡ called .answer) × (r .view ≡ called .view) ⌝ }
+{
+    match judge::lengths(heap.len(), metadata.len()) {
+        Judged::Unfit(refusal) => reading::refused(refusal),
+        Judged::Laid(layout) => reading::read(metadata, layout, offset, count, page.len()),
+    }
+}
+
+// The bytes that a read shows: a part of the heap, or of the page, whose empty part stands for a refusal.
+pub fn read<'a>(
+    heap: &'a [u8],
+    metadata: &[u8],
+    offset: u32,
+    count: u32,
+    page: &'a [u8],
+) -> &'a [u8]
+    ensures { λ r.
+        let called = reading (length (now (heap .entry))) (now (metadata .entry)) offset count (now (page .entry)) in
+        ⌜ (now r ≡ viewBytes (called .view) (now (heap .entry)) (now (page .entry)))
+        × (length (now r) ≡ called .answer .value) ⌝ }
+{
+    let seen = look(heap, metadata, offset, count, page);
+    let view = seen.view;
+    view::bytes(view, heap, page)
 }

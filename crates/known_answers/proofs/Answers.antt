@@ -13,13 +13,14 @@ use Rattle.request.specs.Parse.{parse}
 use Rattle.rules.specs.Judge.{judge}
 use Rattle.rules.specs.Allocate.{probe, allocate}
 use Rattle.rules.specs.Object.{free, space, remaining, copy}
-use Rattle.rules.specs.Call.{call, opening}
+use Rattle.rules.specs.Read.{read}
+use Rattle.rules.specs.Call.{serving, opening}
 use Rattle.alike.specs.Alike.{alike}
 use Rattle.vote.specs.Decide.{tabulate, digits, leader, count, decide}
 use Rattle.alike.proofs.Equal.{alike-equal}
-use Rattle.known_answers.specs.Calls.{Row, row, numbers, opened, clear, answerTo, after, voting}
+use Rattle.known_answers.specs.Calls.{Row, row, numbers, opened, clear, answerTo, after, placeOf, showing, voting}
 use Rattle.known_answers.specs.Table.{table, start, oneObject, copying, bytesVoted}
-use Rattle.known_answers.specs.Further.{further, lastSet, firstSet, atCapacity, strayBits, onlySlotSet}
+use Rattle.known_answers.specs.Further.{further, lastSet, firstSet, atCapacity, strayBits, onlySlotSet, shownThere}
 
 -- the two sides of each row are the same numbers
 allAlike : List Row → Bool
@@ -41,11 +42,15 @@ each (r ∷ rows) e zero h = alike-equal (r .computed) (r .expected) (both (alik
 each (r ∷ rows) e (suc i) h = each rows (both (alike (r .computed) (r .expected)) (allAlike rows) e .1) i (le-of-suc-le-suc h)
 
 computes : allAlike table ≡ true
-unfolding allAlike table start answerTo after oneObject numbers copying bytesVoted voting row indexOf indexAfter first slotSize bitmapAt putByte countSet nextClear parse judge probe allocate free space remaining copy call opening alike tabulate digits leader count decide
+unfolding allAlike table start answerTo after oneObject numbers copying bytesVoted voting row indexOf indexAfter first
+    slotSize bitmapAt putByte countSet nextClear parse judge probe allocate free space remaining copy serving opening alike
+    tabulate digits leader count decide
 computes = refl
 
 further-computes : allAlike further ≡ true
-unfolding allAlike further lastSet firstSet atCapacity strayBits onlySlotSet opened clear answerTo after numbers voting row indexOf indexAfter first slotSize bitmapAt putByte countSet nextClear parse judge probe allocate free space remaining copy call opening alike tabulate digits leader count decide
+unfolding allAlike further lastSet firstSet atCapacity strayBits onlySlotSet shownThere opened clear answerTo after
+    placeOf showing numbers voting row indexOf indexAfter first slotSize bitmapAt putByte countSet nextClear parse judge
+    probe allocate free space remaining copy read serving opening alike tabulate digits leader count decide
 further-computes = refl
 
 -- each of the twelve worked examples holds of the definitions

@@ -1,15 +1,18 @@
 -- Calls and what they come to, as lists of numbers for tables of worked examples.
 use Prim.Native.Nat.{ℕ, _*_}
-use mathlib.Core.List.{List, [], _∷_}
+use mathlib.Core.List.{List, [], _∷_, _++_}
 use lib.ListN.{replicate}
 use Rattle.mwc.specs.declared.Generator.{Generator}
 use Rattle.geometry.specs.Layout.{layoutOf, classes, metadataLength}
 use Rattle.request.specs.Parse.{requestBytes}
 use Rattle.answer.specs.Reply.{Reply}
+use Rattle.rules.specs.declared.View.{View}
+use Rattle.rules.specs.declared.View.the-variants.{Heap, Page}
 use Rattle.rules.specs.Metadata.{withGenerator}
+use Rattle.rules.specs.View.{viewBytes}
 use Rattle.rules.specs.Open.{setup}
-use Rattle.rules.specs.Serve.{lent}
-use Rattle.rules.specs.Call.{call, opening}
+use Rattle.rules.specs.Serve.{lentWith, lent}
+use Rattle.rules.specs.Call.{Call, call, opening}
 use Rattle.vote.specs.Decide.{Decision, Tally, decide, tally, outputAfter}
 
 -- what the definitions give, and what is right
@@ -50,12 +53,26 @@ free offset = requestBytes 1 offset 0
 abbrev pub remaining : ℕ → List ℕ
 remaining offset = requestBytes 2 offset 0
 
+abbrev pub read : ℕ → ℕ → List ℕ
+read offset count = requestBytes 6 offset count
+
 -- the answer to a request on metadata m, and the metadata after it
 unfoldable pub answerTo : ℕ → List ℕ → List ℕ → List ℕ
 answerTo R m r = numbers (call (heapOf R) m r (lent []) .answer)
 
 unfoldable pub after : ℕ → List ℕ → List ℕ → List ℕ
 after R m r = call (heapOf R) m r (lent []) .metadata
+
+-- where bytes lie that are shown: 0 and their offset in the heap, or 1 for the front of the page
+unfoldable pub placeOf : View → List ℕ
+placeOf (Heap offset n) = 0 ∷ offset ∷ []
+placeOf (Page n) = 1 ∷ []
+
+-- the answer to a request that is lent a heap and a page, and where the bytes lie that it shows, and these bytes
+unfoldable pub showing : List ℕ → List ℕ → ℕ → List ℕ → List ℕ → List ℕ
+showing heap page R m r =
+    let c : Call = call (heapOf R) m r (lentWith [] page) in
+    numbers (c .answer) ++ (placeOf (c .view) ++ viewBytes (c .view) heap page)
 
 -- ---- votes
 

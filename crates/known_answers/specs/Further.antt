@@ -5,7 +5,8 @@ use mathlib.Core.List.{List, [], _∷_, _++_}
 use lib.ListN.{drop, set, replicate}
 use Rattle.geometry.specs.Layout.{layoutOf, header, classOf}
 use Rattle.request.specs.Parse.{requestBytes}
-use Rattle.known_answers.specs.Calls.{Row, row, heapOf, opened, clear, allocate, free, remaining, answerTo, after, voting}
+use Rattle.known_answers.specs.Calls.{Row, row, heapOf, opened, clear, allocate, free, remaining, read}
+use Rattle.known_answers.specs.Calls.{answerTo, after, showing, voting}
 
 -- ---- regions of 4,096 bytes: class 4 has 32 slots of 128 bytes, and its bitmap is bytes 128 to 131
 
@@ -29,6 +30,12 @@ strayBits = set (clear 1_024 1 1) 39 0xf1
 
 unfoldable pub onlySlotSet : List ℕ
 onlySlotSet = set (clear 1_024 1 1) 41 0x01
+
+-- the slot of class 7 ends with 1, 2, 3 and 4; what is shown with a page of three bytes
+unfoldable pub shownThere : List ℕ → List ℕ → List ℕ
+shownThere m r =
+    let heap : List ℕ = replicate 8_188 0x11 ++ (1 ∷ 2 ∷ 3 ∷ 4 ∷ replicate 4_096 0x22) in
+    showing heap (0x70 ∷ 0x71 ∷ 0x72 ∷ []) 1_024 m r
 
 -- ---- the table
 
@@ -66,9 +73,24 @@ further =
     ∷ row (answerTo 32_768 (clear 32_768 1 1) (allocate 0)) (5 ∷ 0 ∷ [])
     ∷ row (answerTo 1_024 (clear 1_024 1 1) (remaining 12_287)) (0 ∷ 0 ∷ [])
     ∷ row (answerTo 1_024 (clear 1_024 1 1) (remaining 12_288)) (8 ∷ 0 ∷ [])
+    -- reads of a live object: to its end, part of it, and nothing, which is no part of the page
+    ∷ row (shownThere onlySlotSet (read 8_188 9)) (0 ∷ 4 ∷ 0 ∷ 8_188 ∷ 1 ∷ 2 ∷ 3 ∷ 4 ∷ [])
+    ∷ row (shownThere onlySlotSet (read 8_189 2)) (0 ∷ 2 ∷ 0 ∷ 8_189 ∷ 2 ∷ 3 ∷ [])
+    ∷ row (shownThere onlySlotSet (read 8_189 0)) (0 ∷ 0 ∷ 0 ∷ 8_189 ∷ [])
+    -- reads of the page: of a clear slot, of more than the page has, in a region without slots, and of no page
+    ∷ row (shownThere (clear 1_024 1 1) (read 8_188 2)) (0 ∷ 2 ∷ 1 ∷ 0x70 ∷ 0x71 ∷ [])
+    ∷ row (shownThere (clear 1_024 1 1) (read 8_188 4_294_967_295)) (0 ∷ 3 ∷ 1 ∷ 0x70 ∷ 0x71 ∷ 0x72 ∷ [])
+    ∷ row (shownThere onlySlotSet (read 8_192 1)) (0 ∷ 1 ∷ 1 ∷ 0x70 ∷ [])
+    ∷ row (showing [] [] 1_024 (clear 1_024 1 1) (read 8_188 2)) (0 ∷ 0 ∷ 1 ∷ [])
+    -- refused reads, and what is no read, show the empty part of the page: past the end, on metadata a byte short, and
+    -- where a byte is set that must be zero
+    ∷ row (shownThere onlySlotSet (read 12_288 4)) (8 ∷ 0 ∷ 1 ∷ [])
+    ∷ row (shownThere (drop 1 onlySlotSet) (read 8_188 4)) (3 ∷ 0 ∷ 1 ∷ [])
+    ∷ row (shownThere onlySlotSet (set (read 8_188 4) 12 1)) (4 ∷ 0 ∷ 1 ∷ [])
+    ∷ row (shownThere onlySlotSet (remaining 8_188)) (0 ∷ 4 ∷ 1 ∷ [])
     -- requests: the last operation, none such, a count where there is none, and 15 and 17 bytes
-    ∷ row (answerTo 1_024 (clear 1_024 1 1) (requestBytes 5 0 1)) (0 ∷ 0 ∷ [])
-    ∷ row (answerTo 1_024 (clear 1_024 1 1) (requestBytes 6 0 0)) (4 ∷ 0 ∷ [])
+    ∷ row (answerTo 1_024 (clear 1_024 1 1) (requestBytes 6 0 1)) (0 ∷ 0 ∷ [])
+    ∷ row (answerTo 1_024 (clear 1_024 1 1) (requestBytes 7 0 0)) (4 ∷ 0 ∷ [])
     ∷ row (answerTo 1_024 (clear 1_024 1 1) (requestBytes 4 0 1)) (4 ∷ 0 ∷ [])
     ∷ row (answerTo 1_024 (clear 1_024 1 1) (drop 1 (remaining 0))) (4 ∷ 0 ∷ [])
     ∷ row (answerTo 1_024 (clear 1_024 1 1) (remaining 0 ++ (0 ∷ []))) (4 ∷ 0 ∷ [])

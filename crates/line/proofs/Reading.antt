@@ -1,4 +1,4 @@
--- A line cut at its comment and its end, and a word cut where the text ends.
+-- A line cut at its comment and its end.
 use Prim.Native.Nat.{ℕ, _+_, _-_, _≤_, _<_, min}
 use mathlib.Core.Path.{_≡_, refl, _∙_}
 use mathlib.Core.Bool.{Bool, true, false}
@@ -11,7 +11,6 @@ use lib.ListN.{length, take, drop, getD, length-append, length-take, length-drop
 use lib.Seq.{take-length, take-append-seam, getD-append-seam}
 use lib.Dec.{eqb}
 use Rattle.bytes.specs.Bytes.{slice, indexOf}
-use Rattle.numbers.proofs.Cut.{take-min}
 use Rattle.line.specs.Text.{wordAt, carriageReturn, trimmedEnd, trimmed}
 use Rattle.line.specs.Line.{statement, hash, longestLine, readText, readLine}
 use Rattle.line.specs.declared.Word.{Word}
@@ -51,23 +50,6 @@ return-ignored line h =
     let size : length long - 1 ≡ length line = simp length-append (omega arith) in
     let last : getD long (length long - 1) 0 ≡ carriageReturn = rw size (getD-append-seam line carriageReturn [] 0) in
     rw (← return-last long last, size, take-append-seam, ← other-last line h, take-length)
-
--- a word is what of it lies in the text
-pub word-within : (text : List ℕ) (w : Word) {start end : ℕ} → end ≡ min (w .end) (length text)
-    → start ≡ min (w .start) end → take (end - start) (drop start text) ≡ wordAt text w
-word-within text w {start} {end} e f =
-    let rest : List ℕ = drop (w .start) text in
-    let size : length rest ≡ length text - w .start = length-drop (w .start) text in
-    let within : end - start ≡ min (w .end - w .start) (length rest) = omega arith in
-    go (decLt (w .start) end) ∙ take-min (w .end - w .start) (length rest) rest within ∙ rw take-length
-  where
-    go : Dec (w .start < end) → take (end - start) (drop start text) ≡ take (end - start) (drop (w .start) text)
-    go (yes h) =
-        let s : start ≡ w .start = omega arith in
-        rw s
-    go (no h) =
-        let s : end - start ≡ 0 = omega arith in
-        rw s
 
 -- a line that has more bytes than a line and a carriage return may have is too long
 pub long-line : (line : List ℕ) → longestLine + 1 < length line → TooLong ≡ readLine line

@@ -6,7 +6,7 @@ use lib.ListN.{length, take, getD}
 use lib.Dec.{ltb, eqb}
 use Rattle.search.specs.First.{first}
 use Rattle.alike.specs.Alike.{alike}
-use Rattle.request.specs.Parse.{requestBytes}
+use Rattle.request.specs.Parse.{hasCount, requestBytes}
 use Rattle.bytes.specs.Bytes.{indexOf}
 use Rattle.line.specs.Text.{bytes, nextWord, wordAt, trimmed}
 use Rattle.line.specs.Number.{limit, number}
@@ -16,12 +16,24 @@ use Rattle.line.specs.declared.Line.the-variants.{Request, Nothing, BadO
 use Rattle.line.specs.declared.Line.the-variants.{TrailingText, TooLong}
 
 -- the operations in the order of their numbers
-unfoldable pub names : List (List ℕ)
-names = bytes "place" ∷ bytes "free" ∷ bytes "measure" ∷ bytes "copy" ∷ bytes "text" ∷ bytes "counted" ∷ []
+abbrev pub names : List (List ℕ)
+names =
+    bytes "place"
+    ∷ bytes "free"
+    ∷ bytes "measure"
+    ∷ bytes "copy"
+    ∷ bytes "text"
+    ∷ bytes "counted"
+    ∷ bytes "read"
+    ∷ []
 
--- the operation that a word names; 6 where it names none
+-- how many there are
+abbrev pub operations : ℕ
+operations = length names
+
+-- the operation that a word names; their number where it names none
 unfoldable pub operationOf : List ℕ → ℕ
-operationOf name = first (λ k. alike name (getD names k [])) 0 6
+operationOf name = first (λ k. alike name (getD names k [])) 0 operations
 
 -- a request, where no word is left from place a on
 unfoldable pub request : List ℕ → ℕ → ℕ → ℕ → ℕ → Line
@@ -29,12 +41,12 @@ request text a operation argument count =
     let w : Word = nextWord text a in
     cond (eqb (w .start) (length text)) (Request operation argument count) (TrailingText w)
 
--- the second number, from place a on, which operation 5 alone has
-unfoldable pub counted : List ℕ → ℕ → ℕ → Line
-counted text a argument =
+-- the second number, from place a on
+unfoldable pub counted : List ℕ → ℕ → ℕ → ℕ → Line
+counted text a operation argument =
     let w : Word = nextWord text a in
     let count : ℕ = number (wordAt text w) in
-    cond (ltb count limit) (request text (w .end) 5 argument count) (BadNumber w)
+    cond (ltb count limit) (request text (w .end) operation argument count) (BadNumber w)
 
 -- the numbers from place a on
 unfoldable pub operands : List ℕ → ℕ → ℕ → Line
@@ -42,7 +54,9 @@ operands text a operation =
     let w : Word = nextWord text a in
     let argument : ℕ = number (wordAt text w) in
     cond (ltb argument limit)
-    (cond (eqb operation 5) (counted text (w .end) argument) (request text (w .end) operation argument 0))
+    (cond (hasCount operation)
+    (counted text (w .end) operation argument)
+    (request text (w .end) operation argument 0))
     (BadNumber w)
 
 -- a text without a comment: nothing, or an operation and its numbers
@@ -52,7 +66,7 @@ statement text =
     let operation : ℕ = operationOf (wordAt text w) in
     cond (eqb (w .start) (length text))
     Nothing
-    (cond (eqb operation 6) (BadOperation w) (operands text (w .end) operation))
+    (cond (eqb operation operations) (BadOperation w) (operands text (w .end) operation))
 
 abbrev pub hash : ℕ
 hash = 35

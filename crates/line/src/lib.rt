@@ -3,6 +3,7 @@ mod number;
 mod scan;
 
 use alike::same;
+use request::has_count;
 pub use scan::word_bytes;
 ghost use mathlib.Core.Path.{_≡_};
 ghost use mathlib.Core.List.{[]};
@@ -11,7 +12,8 @@ ghost use lib.ListN.{length, getD};
 ghost use Rattle.alike.specs.Alike.{alike};
 ghost use Rattle.line.specs.Text.{trimmedEnd};
 ghost use Rattle.line.specs.Number.{limit};
-ghost use Rattle.line.specs.Line.{names, operationOf, request, counted, operands, statement, readText, readLine};
+ghost use Rattle.line.specs.Line.{names, operations, operationOf, request, counted, operands};
+ghost use Rattle.line.specs.Line.{statement, readText, readLine};
 
 // Where a word lies in its line.
 pub struct Word {
@@ -36,12 +38,10 @@ pub enum Line {
 // How many bytes a line may have, its end not counted.
 pub const LONGEST: usize = 255;
 
-const OPERATIONS: u32 = 6;
-
-const COUNTED: u32 = 5;
+const OPERATIONS: u32 = 7;
 
 fn is_name(word: &[u8], operation: u32) -> bool
-    requires { ⌜ operation < 6 ⌝ }
+    requires { ⌜ operation < operations ⌝ }
     ensures { λ r. ⌜ r ≡ alike (now (word .entry)) (getD names operation []) ⌝ }
 {
     match operation {
@@ -50,7 +50,8 @@ fn is_name(word: &[u8], operation: u32) -> bool
         2 => same(word, b"measure"),
         3 => same(word, b"copy"),
         4 => same(word, b"text"),
-        _ => same(word, b"counted"),
+        5 => same(word, b"counted"),
+        _ => same(word, b"read"),
     }
 }
 
@@ -84,16 +85,16 @@ fn request(text: &[u8], from: usize, operation: u32, argument: u64, count: u64) 
 }
 
 // The second number.
-fn counted(text: &[u8], from: usize, argument: u64) -> Line
+fn counted(text: &[u8], from: usize, operation: u32, argument: u64) -> Line
     requires { ⌜ (from ≤ length (now text)) × (argument < limit) ⌝ }
-    ensures { λ r. ⌜ r ≡ counted (now (text .entry)) from argument ⌝ }
+    ensures { λ r. ⌜ r ≡ counted (now (text .entry)) from operation argument ⌝ }
 {
     let word = scan::next(text, from);
     let count = number::of(scan::word_bytes(text, word));
     if number::LIMIT <= count {
         return Line::BadNumber(word);
     }
-    request(text, word.end, COUNTED, argument, count)
+    request(text, word.end, operation, argument, count)
 }
 
 // The numbers after the operation's name.
@@ -106,8 +107,8 @@ fn operands(text: &[u8], from: usize, operation: u32) -> Line
     if number::LIMIT <= argument {
         return Line::BadNumber(word);
     }
-    if operation == COUNTED {
-        return counted(text, word.end, argument);
+    if has_count(operation) {
+        return counted(text, word.end, operation, argument);
     }
     request(text, word.end, operation, argument, 0)
 }

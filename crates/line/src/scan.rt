@@ -1,6 +1,6 @@
 // Finding words in a text.
 use super::Word;
-use numbers::least;
+use slices::between;
 ghost use mathlib.Core.Path.{_≡_};
 ghost use Prim.Native.Nat.{_≤_};
 ghost use lib.ListN.{length};
@@ -46,7 +46,5 @@ pub fn next(text: &[u8], from: usize) -> Word
 pub fn word_bytes(text: &[u8], word: Word) -> &[u8]
     ensures { λ r. ⌜ now r ≡ wordAt (now (text .entry)) word ⌝ }
 {
-    let end = least(word.end, text.len());
-    let start = least(word.start, end);
-    &text[start..end]
+    between(text, word.start, word.end)
 }

@@ -40,7 +40,7 @@ fn put_line(out: &mut [u8], number: u64, refusal: u32, value: u32) -> usize
     put_field(out, third, value as u64, b'\n')
 }
 
-// Serves a request with an empty source and writes its line at the front of the output. Where the output has no room
+// Serves a request with an empty source and an empty page and writes its line at the front of the output. Where the output has no room
 // for a line, nothing is served or written, and the answer is 0.
 pub fn step(
     heap: &mut [u8],
@@ -59,7 +59,7 @@ pub fn step(
     if out.len() < LINE_ROOM {
         return 0;
     }
-    let answer = heap::serve(heap, metadata, request, b"");
+    let answer = heap::serve(heap, metadata, request, b"", b"");
     put_line(out, number, answer.number(), answer.value())
 }
 
@@ -96,7 +96,7 @@ pub struct Done {
     pub next: u64,
 }
 
-// Serves every request of the input with an empty source, and writes their lines one after another at the front of the
+// Serves every request of the input with an empty source and an empty page, and writes their lines one after another at the front of the
 // output. Where the output may be too short for the lines, or 64 bits for the numbers, nothing is served or written.
 pub fn batch(
     heap: &mut [u8],

@@ -7,12 +7,12 @@ use lib.ListN.{length, getD}
 use lib.Dec.{eqb}
 use Rattle.words.specs.Word.{bytesOf, wordAt}
 use Rattle.request.specs.declared.Request.{Request}
-use Rattle.request.specs.declared.Request.the-variants.{Allocate, Free, Remaining, Copy}
+use Rattle.request.specs.declared.Request.the-variants.{Allocate, Free, Remaining, Copy, Read}
 use Rattle.request.specs.declared.Kind.the-variants.{Bytes, String, Padded}
 use Rattle.request.specs.declared.Parsed.{Parsed}
 use Rattle.request.specs.declared.Parsed.the-variants.{Whole, Malformed}
 
--- in the order of their numbers; the paper's place, free, measure, plain copy, text copy and counted copy
+-- in the order of their numbers; the paper's place, free, measure, plain copy, text copy, counted copy and read
 abbrev pub operations : ℕ → ℕ → List Request
 operations argument count =
     Allocate argument
@@ -21,14 +21,18 @@ operations argument count =
     ∷ Copy argument Bytes
     ∷ Copy argument String
     ∷ Copy argument (Padded count)
+    ∷ Read argument count
     ∷ []
 
 abbrev pub operation : ℕ → ℕ → ℕ → Parsed
 operation code argument count = getD (map Whole (operations argument count)) code Malformed
 
--- only operation 5 has a count
+-- a padded copy and a read have a count
+abbrev pub hasCount : ℕ → Bool
+hasCount code = eqb code 5 || eqb code 6
+
 abbrev pub countAllowed : ℕ → ℕ → Bool
-countAllowed code count = eqb count 0 || eqb code 5
+countAllowed code count = eqb count 0 || hasCount code
 
 -- four words
 abbrev pub requestSize : ℕ

@@ -1,6 +1,6 @@
 // Requests: sixteen bytes, read whole into an enum or found malformed.
 ghost use mathlib.Core.Path.{_≡_};
-ghost use Rattle.request.specs.Parse.{operation, countAllowed, parse, requestBytes};
+ghost use Rattle.request.specs.Parse.{operation, hasCount, countAllowed, parse, requestBytes};
 
 // The bytes of a request: four words.
 pub const SIZE: usize = 16;
@@ -18,6 +18,7 @@ pub enum Request {
     Free(u32),
     Remaining(u32),
     Copy(u32, Kind),
+    Read(u32, u32),
 }
 
 pub enum Parsed {
@@ -35,14 +36,22 @@ fn of_operation(code: u32, argument: u32, count: u32) -> Parsed
         3 => Parsed::Whole(Request::Copy(argument, Kind::Bytes)),
         4 => Parsed::Whole(Request::Copy(argument, Kind::String)),
         5 => Parsed::Whole(Request::Copy(argument, Kind::Padded(count))),
+        6 => Parsed::Whole(Request::Read(argument, count)),
         _ => Parsed::Malformed,
     }
+}
+
+// Whether an operation has a count.
+pub fn has_count(code: u32) -> bool
+    ensures { λ r. ⌜ r ≡ hasCount code ⌝ }
+{
+    if code == 5 { true } else { code == 6 }
 }
 
 fn count_allowed(code: u32, count: u32) -> bool
     ensures { λ r. ⌜ r ≡ countAllowed code count ⌝ }
 {
-    if count == 0 { true } else { code == 5 }
+    if count == 0 { true } else { has_count(code) }
 }
 
 // What any bytes come to.

@@ -12,7 +12,7 @@ use Rattle.geometry.specs.declared.Layout.{Layout}
 use Rattle.geometry.specs.Layout.{layoutOf, classes, classOf, slotSize, slots}
 use Rattle.bitmap.specs.Bitmap.{nextClear}
 use Rattle.request.specs.declared.Request.{Request}
-use Rattle.request.specs.declared.Request.the-variants.{Allocate, Free, Remaining, Copy}
+use Rattle.request.specs.declared.Request.the-variants.{Allocate, Free, Remaining, Copy, Read}
 use Rattle.request.specs.declared.Kind.the-variants.{Bytes}
 use Rattle.request.specs.declared.Parsed.{Parsed}
 use Rattle.request.specs.declared.Parsed.the-variants.{Whole, Malformed}
@@ -105,6 +105,9 @@ one-offset = frees 640 refl refl refl refl
 one-value : Pair G (event (Remaining 643) 0 5) (event (Copy 1027 Bytes) 0 5)
 one-value = measurings (Remaining 643) (Copy 1027 Bytes) refl refl tt tt refl refl refl
 
+read-and-measured : Pair G (event (Read 643 9) 0 5) (event (Remaining 643) 0 5)
+read-and-measured = measurings (Read 643 9) (Remaining 643) refl refl tt tt refl refl refl
+
 one-number : Pair G (event (Free 640) 8 0) (event (Remaining 4) 8 0)
 one-number = refusals (λ e. omega (arith, e)) refl
 
@@ -114,6 +117,7 @@ shares G (Whole (Allocate size)) value = 0 ∷ classOf G size ∷ []
 shares G (Whole (Free offset)) value = 1 ∷ offset ∷ []
 shares G (Whole (Remaining offset)) value = 2 ∷ value ∷ []
 shares G (Whole (Copy offset kind)) value = 2 ∷ value ∷ []
+shares G (Whole (Read offset count)) value = 2 ∷ value ∷ []
 shares G Malformed value = []
 
 shared : Layout → Event → List ℕ
@@ -125,6 +129,7 @@ measuring-shares G (Allocate size) value h = absurd h
 measuring-shares G (Free offset) value h = absurd h
 measuring-shares G (Remaining offset) value h = refl
 measuring-shares G (Copy offset kind) value h = refl
+measuring-shares G (Read offset count) value h = refl
 
 pair-shares : {G : Layout} {a b : Event} → Pair G a b → shared G a ≡ shared G b
 unfolding shared shares
@@ -147,6 +152,10 @@ two-offsets p = let e : _≡_ {A = ℕ} 640 648 = cc (pair-shares p) in omega ar
 two-values : Pair G (event (Remaining 643) 0 5) (event (Remaining 642) 0 6) → ⊥
 unfolding shared shares
 two-values p = let e : _≡_ {A = ℕ} 5 6 = cc (pair-shares p) in omega arith
+
+two-read-values : Pair G (event (Read 643 9) 0 5) (event (Read 643 4) 0 4) → ⊥
+unfolding shared shares
+two-read-values p = let e : _≡_ {A = ℕ} 5 4 = cc (pair-shares p) in omega arith
 
 two-numbers : Pair G (event (Free 641) 9 0) (event (Free 640) 10 0) → ⊥
 unfolding shared shares

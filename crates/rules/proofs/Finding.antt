@@ -8,7 +8,7 @@ use native.Mathlib.Omega.{arith}
 use lib.Dec.{leb, ltb, eqb}
 use borrow.Author.Tests.{leb-false, eqb-true, not-false}
 use Rattle.answer.specs.declared.Refusal.{Refusal}
-use Rattle.rules.specs.Outcome.{Outcome, refused, allocated, freed, told}
+use Rattle.rules.specs.Outcome.{Outcome, refused, allocated, freed, told, shown}
 use Rattle.mwc.specs.declared.Generator.{Generator}
 use Rattle.mwc.specs.Draw.{next, drawn}
 use Rattle.geometry.specs.declared.Layout.{Layout}
@@ -28,6 +28,7 @@ Unrefused (refused r) = ⊥
 Unrefused (allocated c i g) = Unit {0}
 Unrefused (freed c i) = Unit {0}
 Unrefused (told value offset bytes) = Unit {0}
+Unrefused (shown v) = Unit {0}
 
 -- none of the tests before it refused
 pub passed : (t : Bool) (r : Refusal) (x y : Outcome) → Unrefused y → cond t (refused r) x ≡ y → (t ≡ false) × (x ≡ y)

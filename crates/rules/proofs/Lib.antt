@@ -1,9 +1,11 @@
 pub mod Metadata
+pub mod Space
 pub mod Finding
 pub mod Effects
 pub mod Results
 pub mod Serving
 pub mod Refusing
+pub mod Showing
 pub mod Pairing
 pub mod Objects
 pub mod Tracking

@@ -23,21 +23,21 @@ module _ (G : Layout) (m : List ℕ) where
       → o ≡ taken G m (classOf G size)
   allocation-class size (refusal _ r) e = absurd (refusal-number r e)
   allocation-class size (allocation _ c found t) e = cc
-  allocation-class size (measuring _ h value offset bytes) e = absurd h
+  allocation-class size (measuring _ h tells) e = absurd h
 
   measuring-keeps : {o : Outcome} {x : Change} (q : Request) → Result G m (Whole q) o x → Measures q → metadataAfter G m o ≡ m
   measuring-keeps q (refusal _ r) h = refl
   measuring-keeps q (allocation size c found t) h = absurd h
   measuring-keeps q (freeing offset start t) h = absurd h
-  measuring-keeps q (measuring _ _ value offset bytes) h = refl
+  measuring-keeps q (measuring _ _ tells) h = tells .kept
 
   -- results with one change and one reply pair
   result-pair : {p q : Parsed} {o o′ : Outcome} {x : Change} → Result G m p o x → Result G m q o′ x
       → reply G o .number ≡ reply G o′ .number → reply G o .value ≡ reply G o′ .value → Pair G (eventBy G p o) (eventBy G q o′)
   result-pair (refusal p r) (refusal q r′) e v = refusals (refusal-number r) (cc)
-  result-pair (refusal p r) (measuring b k value offset bytes) e v = absurd (refusal-number r e)
-  result-pair (measuring a h value offset bytes) (refusal q r) e v = absurd (refusal-number r (sym e))
-  result-pair (measuring a h value offset bytes) (measuring b k value′ offset′ bytes′) e v = measurings a b refl refl h k refl refl (cc)
+  result-pair (refusal p r) (measuring b k tells) e v = absurd (refusal-number r (e ∙ tells .served))
+  result-pair (measuring a h tells) (refusal q r) e v = absurd (refusal-number r (sym e ∙ tells .served))
+  result-pair (measuring a h tells) (measuring b k tells′) e v = measurings a b refl refl h k (tells .served) (tells′ .served) v
   result-pair (allocation s c found takes) (allocation t d found′ takes′) e v = allocations s t refl refl (cc) refl refl
   result-pair (freeing offset start ends) (freeing offset′ start′ ends′) e v = frees offset refl (cc) refl refl
 
@@ -55,9 +55,12 @@ module _ (G : Layout) (m : List ℕ) where
         let right : metadataAfter G m (act G m lent′ q) ≡ m = rw e′ (measuring-keeps b (result G m fits lent′ (Whole b) .1) k) in
         λ i. record { answer = record { number = (s ∙ sym s′) i; value = v i }; metadata = (left ∙ sym right) i }
     pair-steps (refusals h e) =
-        let (value, left, _) = outcome-refused G m (act G m lent p) h in
-        let (value′, right, _) = outcome-refused G m (act G m lent′ q) (λ z. h (e ∙ z)) in
-        λ i. record { answer = record { number = e i; value = (value ∙ sym value′) i }; metadata = (left ∙ sym right) i }
+        let left = outcome-refused G m (act G m lent p) h in
+        let right = outcome-refused G m (act G m lent′ q) (λ z. h (e ∙ z)) in
+        λ i. record {
+          answer = record { number = e i; value = (left .value ∙ sym (right .value)) i };
+          metadata = (left .metadata ∙ sym (right .metadata)) i;
+        }
 
     -- and only pairs
     pub steps-pair : stepBy G m (act G m lent p) ≡ stepBy G m (act G m lent′ q)

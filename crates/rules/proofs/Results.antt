@@ -12,13 +12,14 @@ use Rattle.geometry.specs.declared.Layout.{Layout}
 use Rattle.geometry.specs.Layout.{classOf, slots, slotStart, locate, metadataLength}
 use Rattle.request.specs.declared.Kind.{Kind}
 use Rattle.request.specs.declared.Request.{Request}
-use Rattle.request.specs.declared.Request.the-variants.{Allocate, Free, Remaining, Copy}
+use Rattle.request.specs.declared.Request.the-variants.{Allocate, Free, Remaining, Copy, Read}
 use Rattle.request.specs.declared.Parsed.{Parsed}
 use Rattle.request.specs.declared.Parsed.the-variants.{Whole, Malformed}
 use Rattle.answer.specs.declared.Refusal.{Refusal}
-use Rattle.rules.specs.Outcome.{Outcome, refused, allocated, freed, told, reply, metadataAfter}
+use Rattle.rules.specs.Outcome.{Outcome, refused, allocated, freed, told, shown, reply, metadataAfter}
 use Rattle.rules.specs.Allocate.{taken, allocate}
 use Rattle.rules.specs.Object.{space, free, remaining, writes, copy}
+use Rattle.rules.specs.Read.{viewIn, read}
 use Rattle.rules.specs.Serve.{Lent, act}
 use Rattle.rules.specs.Run.{Step, Event}
 use Rattle.rules.specs.Pair.{Measures}
@@ -31,13 +32,18 @@ pub data Change : Type 0 where
   none : Change
   turn : (v c i : ℕ) → Change
 
+-- a served outcome that leaves the metadata
+pub record Tells (G : Layout) (m : List ℕ) (o : Outcome) : Type 0 where
+  pub served : reply G o .number ≡ 0
+  pub kept : metadataAfter G m o ≡ m
+
 -- each request with its outcome and its change
 pub data Result (G : Layout) (m : List ℕ) : Parsed → Outcome → Change → Type 0 where
   refusal : (p : Parsed) (r : Refusal) → Result G m p (refused r) none
   allocation : (size : ℕ) {c i : ℕ} {g : Generator} → c ≡ classOf G size → allocated c i g ≡ taken G m c → Takes G m c i
       → Result G m (Whole (Allocate size)) (allocated c i g) (turn 1 c i)
   freeing : (offset : ℕ) {c i : ℕ} → offset ≡ slotStart G c i → Ends G m c i → Result G m (Whole (Free offset)) (freed c i) (turn 0 c i)
-  measuring : (q : Request) → Measures q → (value offset : ℕ) (bytes : List ℕ) → Result G m (Whole q) (told value offset bytes) none
+  measuring : (q : Request) → Measures q → {o : Outcome} → Tells G m o → Result G m (Whole q) o none
 
 -- an outcome's step, and its event
 abbrev pub stepBy : Layout → List ℕ → Outcome → Step
@@ -75,6 +81,11 @@ module _ (G : Layout) (m : List ℕ) where
   unfolding copy
   copy-comes offset kind source = search (guarded, serves)
 
+  pub read-comes : (offset count pageBytes : ℕ)
+      → Comes (shown (viewIn offset (space G m offset) count pageBytes)) (read G m offset count pageBytes)
+  unfolding read
+  read-comes offset count pageBytes = search (guarded, serves)
+
   -- so a served outcome's result is enough
   served-or-refused : (p : Parsed) {o o′ : Outcome} → Comes o o′ → (o′ ≡ o → (x : Change) × Result G m p o x) → (x : Change) × Result G m p o′ x
   served-or-refused p (refuses r) f = (none, refusal p r)
@@ -88,8 +99,10 @@ module _ (G : Layout) (m : List ℕ) where
   result fits lent (Whole (Free offset)) =
       served-or-refused _ (free-comes offset)
       (λ e. let (start, ends) = free-ends G m fits offset e in (turn 0 _ _, freeing offset start ends))
-  result fits lent (Whole (Remaining offset)) = served-or-refused _ (remaining-comes offset) (λ e. (none, measuring _ tt _ _ _))
-  result fits lent (Whole (Copy offset kind)) = served-or-refused _ (copy-comes offset kind (lent .source)) (λ e. (none, measuring _ tt _ _ _))
+  result fits lent (Whole (Remaining offset)) = served-or-refused _ (remaining-comes offset) (λ e. (none, measuring _ tt (record { served = refl; kept = refl })))
+  result fits lent (Whole (Copy offset kind)) = served-or-refused _ (copy-comes offset kind (lent .source)) (λ e. (none, measuring _ tt (record { served = refl; kept = refl })))
+  result fits lent (Whole (Read offset count)) =
+      served-or-refused _ (read-comes offset count (length (lent .page))) (λ e. (none, measuring _ tt (record { served = refl; kept = refl })))
   result fits lent Malformed = (none, refusal Malformed _)
 
 -- ---- a change, in the metadata
@@ -105,7 +118,7 @@ pub made : (G : Layout) (m : List ℕ) → length m ≡ metadataLength G → {p 
 made G m fits (refusal p r) = refl
 made G m fits (allocation size {g} c found t) = (t .slot, omega arith, allocate-changes G m fits g t)
 made G m fits (freeing offset start t) = (t .slot, omega arith, free-changes G m fits t)
-made G m fits (measuring q h value offset bytes) = refl
+made G m fits (measuring q h tells) = tells .kept
 
 module _ (G : Layout) (m m′ : List ℕ) where
   -- the metadata keeps its length

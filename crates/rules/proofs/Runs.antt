@@ -14,7 +14,7 @@ use Rattle.rules.specs.Run.{Entry, HeapsOfLength, Event, stepOf, trace, 
 use Rattle.rules.specs.Pair.{Pair, PairOff}
 use Rattle.rules.specs.Live.{Object, objectsAfter, live, Sound}
 use Rattle.rules.proofs.Effects.{fresh-fits}
-use Rattle.rules.proofs.Serving.{right-lengths, call-acts, has-layout, opened-fresh}
+use Rattle.rules.proofs.Serving.{right-lengths, serving-acts, has-layout, opened-fresh}
 use Rattle.rules.proofs.Results.{result, made, made-length}
 use Rattle.rules.proofs.Pairing.{pair-steps, steps-pair}
 use Rattle.rules.proofs.Tracking.{Tracks, tracks-sound, fresh-tracks, result-tracks}
@@ -29,7 +29,7 @@ module _ (n : ℕ) (region : regionOf n ≡ 0 → ⊥) where
   module _ (m : List ℕ) (fits : length m ≡ metadataLength (layoutOf n)) where
     acts : (e : Entry) → let G = layoutOf n in
         call n m (e .request) (e .lent) ≡ calledBy G m (act G m (e .lent) (parse (e .request)))
-    acts e = call-acts n m (e .request) (e .lent) (right-lengths n (length m) region fits)
+    acts e = serving-acts n m (e .lent) (parse (e .request)) (right-lengths n (length m) region fits)
 
     step-fits : (e : Entry) → length (e .heap) ≡ n → length (stepOf m e .metadata) ≡ metadataLength (layoutOf n)
     step-fits e h =

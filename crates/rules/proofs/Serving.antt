@@ -11,7 +11,7 @@ use lib.ListN.{length}
 use Rattle.geometry.specs.declared.Layout.{Layout}
 use Rattle.geometry.specs.Layout.{regionOf, layoutOf, metadataLength}
 use Rattle.geometry.proofs.Geometry.{laid}
-use Rattle.request.specs.Parse.{parse}
+use Rattle.request.specs.declared.Parsed.{Parsed}
 use Rattle.answer.specs.declared.Refusal.{Refusal}
 use Rattle.answer.specs.declared.Refusal.the-variants.{ZeroSeed, HeapLength, MetadataLength}
 use Rattle.answer.proofs.Numbers.{refusal-number}
@@ -20,7 +20,7 @@ use Rattle.rules.specs.declared.Judged.the-variants.{Laid, Unfit}
 use Rattle.rules.specs.Judge.{judge, Fits}
 use Rattle.rules.specs.Open.{Setup, fresh}
 use Rattle.rules.specs.Serve.{Lent, act}
-use Rattle.rules.specs.Call.{calledBy, unserved, call, openedBy, opening}
+use Rattle.rules.specs.Call.{calledBy, unserved, serving, openedBy, opening}
 
 unfit-laid : {r : Refusal} {G : Layout} → Unfit r ≡ Laid G → ⊥
 unfit-laid e = let z : _≡_ {A = ℕ} 0 1 = cc in omega arith
@@ -60,17 +60,16 @@ module _ (n k : ℕ) where
           let same : layoutOf n ≡ G = laid-same (rw (p, q) at e) in
           (sym same, subst (λ L. Fits L n k) same (fits (eqb-false (regionOf n) 0 p) (eqb-true k (metadataLength (layoutOf n)) q)))
 
--- then the request is acted on
-pub call-acts : (n : ℕ) (m request : List ℕ) (beside : Lent) {G : Layout} → judge n (length m) ≡ Laid G
-    → call n m request beside ≡ calledBy G m (act G m beside (parse request))
-unfolding call
-call-acts n m request beside e = rw e
+module _ (n : ℕ) (m : List ℕ) (beside : Lent) (asked : Parsed) where
+  -- then the request is acted on
+  pub serving-acts : {G : Layout} → judge n (length m) ≡ Laid G → serving n m beside asked ≡ calledBy G m (act G m beside asked)
+  unfolding serving
+  serving-acts e = rw e
 
--- and else refused
-pub call-unfit : (n : ℕ) (m request : List ℕ) (beside : Lent) {r : Refusal} → judge n (length m) ≡ Unfit r
-    → call n m request beside ≡ unserved m r
-unfolding call
-call-unfit n m request beside e = rw e
+  -- and else refused
+  pub serving-unfit : {r : Refusal} → judge n (length m) ≡ Unfit r → serving n m beside asked ≡ unserved m r
+  unfolding serving
+  serving-unfit e = rw e
 
 -- what each way through an opening comes to
 module _ (n : ℕ) (m : List ℕ) (s : Setup) where

@@ -10,7 +10,7 @@ use Rattle.geometry.specs.declared.Layout.{Layout}
 use Rattle.geometry.specs.Layout.{slots, slotStart}
 use Rattle.bitmap.specs.Bitmap.{bit, countSet}
 use Rattle.request.specs.declared.Request.{Request}
-use Rattle.request.specs.declared.Request.the-variants.{Allocate, Free, Remaining, Copy}
+use Rattle.request.specs.declared.Request.the-variants.{Allocate, Free, Remaining, Copy, Read}
 use Rattle.request.specs.declared.Parsed.{Parsed}
 use Rattle.request.specs.declared.Parsed.the-variants.{Whole}
 use Rattle.answer.specs.Reply.{numberOf}
@@ -71,6 +71,7 @@ measuring-leaves G os (Allocate size) value h = absurd h
 measuring-leaves G os (Free offset) value h = absurd h
 measuring-leaves G os (Remaining offset) value h = refl
 measuring-leaves G os (Copy offset kind) value h = refl
+measuring-leaves G os (Read offset count) value h = refl
 
 module _ (G : Layout) (m m′ : List ℕ) (os : List Object) (t : Tracks G m os) where
   -- a bit changes, and the objects change with it at that slot and nowhere else
@@ -138,4 +139,4 @@ module _ (G : Layout) (m m′ : List ℕ) (os : List Object) (t : Tracks G m os)
   result-tracks (refusal p r) made = rw (made, ne-eqb (numberOf r) 0 (refusal-number r), objectsAfter) t
   result-tracks (allocation size class found takes) made = rw (← class) (allocation-tracks takes made)
   result-tracks (freeing offset start ends) made = subst (λ x. Tracks G m′ (without x os)) (sym start) (free-tracks made)
-  result-tracks (measuring q h value offset bytes) made = rw (made, measuring-leaves G os q value h) t
+  result-tracks (measuring q h tells) made = rw (made, tells .served, measuring-leaves G os q _ h) t

@@ -1,9 +1,11 @@
 pub mod Metadata
 pub mod Judge
 pub mod Open
+pub mod View
 pub mod Outcome
 pub mod Allocate
 pub mod Object
+pub mod Read
 pub mod Serve
 pub mod Call
 pub mod Run

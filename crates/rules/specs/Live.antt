@@ -3,7 +3,7 @@ use Prim.Native.Nat.{ℕ, _+_, _*_, _≤_}
 use mathlib.Core.Bool.{true, false, cond, _&&_}
 use mathlib.Core.List.{List, [], _∷_}
 use lib.Dec.{leb, ltb, eqb}
-use Rattle.request.specs.declared.Request.the-variants.{Allocate, Free, Remaining, Copy}
+use Rattle.request.specs.declared.Request.the-variants.{Allocate, Free, Remaining, Copy, Read}
 use Rattle.request.specs.declared.Parsed.{Parsed}
 use Rattle.request.specs.declared.Parsed.the-variants.{Whole, Malformed}
 use Rattle.geometry.specs.declared.Layout.{Layout}
@@ -26,6 +26,7 @@ servedAfter G os (Whole (Allocate size)) value = record { start = value; class =
 servedAfter G os (Whole (Free offset)) value = without offset os
 servedAfter G os (Whole (Remaining offset)) value = os
 servedAfter G os (Whole (Copy offset kind)) value = os
+servedAfter G os (Whole (Read offset count)) value = os
 servedAfter G os Malformed value = os
 
 unfoldable pub objectsAfter : Layout → List Object → Event → List Object

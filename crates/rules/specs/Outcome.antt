@@ -1,5 +1,5 @@
--- What a request comes to, and what that means for its answer, the metadata and the heap. The answer and the metadata
--- depend on the heap's length alone, and not on its bytes.
+-- What a request comes to, and what that means for its answer, the metadata, the heap and what the caller is shown. All
+-- but the heap afterwards depends on the heap's length alone, and not on its bytes.
 use Prim.Native.Nat.{ℕ}
 use mathlib.Core.List.{List}
 use Rattle.mwc.specs.declared.Generator.{Generator}
@@ -9,7 +9,9 @@ use Rattle.bitmap.specs.Bitmap.{setSlot, clearSlot}
 use Rattle.answer.specs.declared.Refusal.{Refusal}
 use Rattle.answer.specs.Reply.{Reply, served, refusedBy}
 use Rattle.writing.specs.Overwrite.{overwrite}
+use Rattle.rules.specs.declared.View.{View}
 use Rattle.rules.specs.Metadata.{withGenerator, bitmapOf}
+use Rattle.rules.specs.View.{viewLength, noView}
 
 pub data Outcome : Type 0 where
   refused : Refusal → Outcome
@@ -19,12 +21,15 @@ pub data Outcome : Type 0 where
   freed : ℕ → ℕ → Outcome
   -- a value, and bytes written from an offset on
   told : ℕ → ℕ → List ℕ → Outcome
+  -- bytes that are shown
+  shown : View → Outcome
 
 abbrev pub reply : Layout → Outcome → Reply
 reply G (refused r) = refusedBy r
 reply G (allocated c i g) = served (slotStart G c i)
 reply G (freed c i) = served (slotSize G c)
 reply G (told value offset bytes) = served value
+reply G (shown v) = served (viewLength v)
 
 abbrev pub metadataAfter : Layout → List ℕ → Outcome → List ℕ
 metadataAfter G m (refused r) = m
@@ -32,9 +37,19 @@ metadataAfter G m (allocated c i g) =
     withGenerator (overwrite m (bitmapAt G c) (setSlot (bitmapOf G c m) (slots G c) i)) g
 metadataAfter G m (freed c i) = overwrite m (bitmapAt G c) (clearSlot (bitmapOf G c m) (slots G c) i)
 metadataAfter G m (told value offset bytes) = m
+metadataAfter G m (shown v) = m
 
 abbrev pub heapAfter : Layout → List ℕ → List ℕ → Outcome → List ℕ
 heapAfter G m h (refused r) = h
 heapAfter G m h (allocated c i g) = h
 heapAfter G m h (freed c i) = h
 heapAfter G m h (told value offset bytes) = overwrite h offset bytes
+heapAfter G m h (shown v) = h
+
+-- what the caller is shown: nothing, but by a read
+abbrev pub viewOf : Outcome → View
+viewOf (refused r) = noView
+viewOf (allocated c i g) = noView
+viewOf (freed c i) = noView
+viewOf (told value offset bytes) = noView
+viewOf (shown v) = v

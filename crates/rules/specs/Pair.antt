@@ -3,7 +3,7 @@ use Prim.Native.Nat.{ℕ}
 use mathlib.Core.Path.{_≡_}
 use mathlib.Core.List.{List, [], _∷_}
 use Rattle.request.specs.declared.Request.{Request}
-use Rattle.request.specs.declared.Request.the-variants.{Allocate, Free, Remaining, Copy}
+use Rattle.request.specs.declared.Request.the-variants.{Allocate, Free, Remaining, Copy, Read}
 use Rattle.request.specs.declared.Parsed.the-variants.{Whole}
 use Rattle.geometry.specs.declared.Layout.{Layout}
 use Rattle.geometry.specs.Layout.{classOf}
@@ -12,15 +12,16 @@ use Rattle.rules.specs.Run.{Event}
 abbrev pub Served : Event → Type 0
 Served a = a .answer .number ≡ 0
 
--- a measuring or a copy
+-- a measuring, a copy or a read
 abbrev pub Measures : Request → Type 0
 Measures (Allocate size) = ⊥
 Measures (Free offset) = ⊥
 Measures (Remaining offset) = Unit {0}
 Measures (Copy offset kind) = Unit {0}
+Measures (Read offset count) = Unit {0}
 
--- two served allocations in one size class, two served frees at one offset, two served measurings or copies, in any
--- mix, of one value, or two refusals with one number
+-- two served allocations in one size class, two served frees at one offset, two served measurings, copies or reads, in
+-- any mix, of one value, or two refusals with one number
 pub data Pair (G : Layout) (a b : Event) : Type 0 where
   allocations : (s t : ℕ) → a .asked ≡ Whole (Allocate s) → b .asked ≡ Whole (Allocate t) → classOf G s ≡ classOf G t
       → Served a → Served b → Pair G a b

@@ -10,6 +10,13 @@ pub struct Found {
     pub generator: Generator,
 }
 
+// Bytes that are shown to the caller where they lie: so many of the heap from an offset on, or so many of the first
+// bytes of the fallback page, which is lent beside the heap.
+pub enum View {
+    Heap(u32, u32),
+    Page(u32),
+}
+
 // What the lengths of a heap and its metadata come to.
 pub enum Judged {
     Laid(Layout),

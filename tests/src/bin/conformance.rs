@@ -40,7 +40,7 @@ fn main() -> io::Result<()> {
         writeln!(out, "open {} {}", opened.number, opened.value)?;
         let requests = take(&mut input, 16 * REQUESTS.min(word(header, 12) as usize));
         for (i, request) in requests.chunks(16).enumerate() {
-            let answer = reference::serve(heap, metadata, request, &[]);
+            let answer = reference::serve(heap, metadata, request, &[], &[]);
             writeln!(out, "{} {} {}", i + 1, answer.number, answer.value)?;
         }
     }

@@ -4,10 +4,10 @@
 //! Arguments: --calls N (default 1,000,000), --seed N (default: from the clock),
 //! --progress (a line on standard error at each twentieth of the calls).
 
-use poheldu_tests::compare::{Tester, Twin};
+use poheldu_tests::compare::{Lent, Tester, Twin, READ_KINDS};
 use poheldu_tests::inputs::{self, Shape, CLASSES, STUCK_W, STUCK_Z};
 use poheldu_tests::random::Random;
-use poheldu_tests::reference::Answer;
+use poheldu_tests::reference::{Answer, Part};
 use std::time::{SystemTime, UNIX_EPOCH};
 
 const DEFAULT_CALLS: u64 = 1_000_000;
@@ -18,6 +18,10 @@ const REMAINING: u8 = 2;
 const COPY_BYTES: u8 = 3;
 const COPY_STRING: u8 = 4;
 const COPY_PADDED: u8 = 5;
+const READ: u8 = 6;
+const NO_OPERATION: u8 = 7;
+/// The page of calls that do not choose one.
+const PAGE: &[u8] = b"stand-in page";
 
 fn main() {
     let Arguments {
@@ -113,8 +117,18 @@ fn report(tester: &Tester) {
         tester.walks, tester.wraps
     );
     println!(
-        "NULL for heap, metadata, request, source, blocks, output: {:?}",
+        "NULL for heap, metadata, request, source, page, blocks, output: {:?}",
         tester.nulls
+    );
+    for (at, kind) in READ_KINDS.iter().enumerate() {
+        println!(
+            "reads {kind}: {} by the call, {} as requests",
+            tester.read_calls[at], tester.read_requests[at]
+        );
+    }
+    println!(
+        "malformed, operation 7 and a count for operation 4: {:?}",
+        tester.malformed
     );
     require_coverage(tester);
     println!(
@@ -123,10 +137,18 @@ fn report(tester: &Tester) {
     );
 }
 
-/// Every refusal number, operation, walk and NULL has to occur.
+/// Every refusal number, operation, walk, NULL and kind of read has to occur.
 fn require_coverage(tester: &Tester) {
-    let seen = [&tester.counts[..], &tester.served, &tester.nulls].concat();
-    if seen.contains(&0) || tester.walks == 0 || tester.wraps == 0 {
+    let seen = [
+        &tester.counts[..],
+        &tester.served,
+        &tester.nulls,
+        &tester.read_calls,
+        &tester.read_requests,
+        &tester.malformed,
+        &[tester.walks, tester.wraps],
+    ];
+    if seen.concat().contains(&0) {
         stop("differential: something above did not occur");
     }
 }
@@ -159,19 +181,31 @@ impl Session {
         tester.open(&mut self.heap, &mut self.metadata, z, w)
     }
 
-    fn serve(&mut self, tester: &mut Tester, request: &[u8], source: &[u8]) -> Answer {
-        let mut request = Twin::new(request, self.guard);
-        let mut source = Twin::new(source, self.guard);
-        tester.serve(
-            &mut self.heap,
-            &mut self.metadata,
-            &mut request,
-            &mut source,
-        )
+    fn serve(&mut self, tester: &mut Tester, request: &[u8], source: &[u8], page: &[u8]) -> Answer {
+        let mut lent = Lent::new(request, source, page, self.guard);
+        tester.serve(&mut self.heap, &mut self.metadata, &mut lent)
     }
 
     fn run(&mut self, tester: &mut Tester, operation: u8, argument: u32) -> Answer {
-        self.serve(tester, &inputs::request(operation, argument, 0), b"text")
+        let request = inputs::request(operation, argument, 0);
+        self.serve(tester, &request, b"text", PAGE)
+    }
+
+    fn read(&mut self, tester: &mut Tester, offset: u32, count: u32, page: &[u8]) -> Part {
+        let mut page = Twin::new(page, self.guard);
+        tester.read(&mut self.heap, &mut self.metadata, offset, count, &mut page)
+    }
+
+    /// A read by its own call and as a request, which say the same.
+    fn read_twice(&mut self, tester: &mut Tester, offset: u32, count: u32, page: &[u8]) -> Part {
+        let part = self.read(tester, offset, count, page);
+        let request = inputs::request(READ, offset, count);
+        let answer = self.serve(tester, &request, b"text", page);
+        expect(
+            (answer.number, answer.value) == (part.number, part.value),
+            "a read as a request",
+        );
+        part
     }
 
     fn show_all(&mut self) {
@@ -186,6 +220,8 @@ impl Session {
 fn document_cases(tester: &mut Tester) {
     eight_lines(tester);
     walk(tester);
+    reads(tester);
+    refused_reads(tester);
     for (blocks, number, mask) in [
         (&b"ABA"[..], 0, 5),
         (b"BAAB", 0, 9),
@@ -239,21 +275,102 @@ fn walk(tester: &mut Tester) {
     }
 }
 
+/// An object of 8 bytes at 640: reads of it, beside it and after it is freed.
+fn reads(tester: &mut Tester) {
+    let mut session = Session::counting(Shape { region: 4_096 });
+    session.open(tester, 1, 1);
+    session.run(tester, ALLOCATE, 5);
+    for (offset, count, page, value, of_page) in [
+        (640, 5, PAGE, 5, 0),
+        (640, 8, PAGE, 8, 0),
+        (640, 9, PAGE, 8, 0),
+        (643, u32::MAX, PAGE, 5, 0),
+        (647, 1, b"", 1, 0),
+        (640, 0, PAGE, 0, 0),
+        (647, 0, b"", 0, 0),
+        (639, 4, PAGE, 4, 1),
+        (648, 4, b"pag", 3, 1),
+        (648, 0, PAGE, 0, 1),
+        (49_151, u32::MAX, &[7; 20_000], 20_000, 1),
+        (45_056, 4, b"", 0, 1),
+    ] {
+        let start = if of_page == 0 { offset } else { 0 };
+        let part = session.read_twice(tester, offset, count, page);
+        let expected = Part {
+            number: 0,
+            value,
+            of_page,
+            start,
+        };
+        expect(part == expected, "a read");
+    }
+    session.run(tester, FREE, 640);
+    let part = session.read_twice(tester, 640, 8, b"page");
+    expect((part.value, part.of_page) == (4, 1), "a read after a free");
+}
+
+/// Reads refuse as a remaining size does, and show the page's empty part. The
+/// operation above them, and a count below, are malformed.
+fn refused_reads(tester: &mut Tester) {
+    let shape = Shape { region: 4_096 };
+    let mut session = Session::counting(shape);
+    session.open(tester, 1, 1);
+    for (cut_heap, cut_metadata, offset, number) in [
+        (0, 0, 49_152, 8),
+        (0, 0, u32::MAX, 8),
+        (0, 1, 640, 3),
+        (0, 1, 49_152, 3),
+        (1, 0, 640, 2),
+        (1, 1, 640, 2),
+    ] {
+        session.heap.show(shape.heap_len() - cut_heap);
+        session.metadata.show(shape.metadata_len() - cut_metadata);
+        let part = session.read_twice(tester, offset, 4, PAGE);
+        let expected = Part {
+            number,
+            value: 0,
+            of_page: 1,
+            start: 0,
+        };
+        expect(part == expected, "a refused read");
+    }
+    session.show_all();
+    for (operation, count) in [(NO_OPERATION, 0), (NO_OPERATION, 4), (COPY_STRING, 1)] {
+        let request = inputs::request(operation, 640, count);
+        let answer = session.serve(tester, &request, b"text", PAGE);
+        expect(answer.number == 4, "a malformed request");
+    }
+}
+
 /// Each call is made twice: once with NULL, once with a dangling pointer.
 fn null_buffers(tester: &mut Tester) {
     let mut session = Session::counting(Shape { region: 1_024 });
     session.open(tester, 1, 1);
     let object = session.run(tester, ALLOCATE, 64).value;
     for _ in 0..2 {
-        session.serve(tester, &[], &[]);
+        session.serve(tester, &[], &[], &[]);
         for operation in [COPY_BYTES, COPY_STRING, COPY_PADDED] {
             let count = 60 * u32::from(operation == COPY_PADDED);
             let request = inputs::request(operation, object, count);
-            session.serve(tester, &request, &[]);
-            session.serve(tester, &request, &[]);
+            session.serve(tester, &request, &[], &[]);
+            session.serve(tester, &request, &[], &[]);
         }
+        null_pages(tester, &mut session, object);
         null_votes(tester);
         null_session(tester, &mut session);
+    }
+}
+
+/// Reads of an object and beside it, with an empty page.
+fn null_pages(tester: &mut Tester, session: &mut Session, object: u32) {
+    for offset in [object, object ^ 64, session.shape.heap_len() as u32] {
+        let request = inputs::request(READ, offset, 60);
+        for _ in 0..2 {
+            session.read(tester, offset, 60, &[]);
+        }
+        for _ in 0..2 {
+            session.serve(tester, &request, &[], &[]);
+        }
     }
 }
 
@@ -265,6 +382,7 @@ fn null_session(tester: &mut Tester, session: &mut Session) {
             session.open(tester, 1, 1);
             session.open(tester, 0, 0);
             session.run(tester, ALLOCATE, 8);
+            session.read(tester, 0, 8, &[]);
         }
     }
     session.show_all();
@@ -314,28 +432,36 @@ fn edges(tester: &mut Tester, shape: Shape) {
         session.run(tester, REMAINING, start);
         session.run(tester, COPY_BYTES, start + shape.region as u32 - 2);
         long_copies(tester, &mut session, start);
+        edge_reads(tester, &mut session, start);
         session.run(tester, FREE, start);
     }
     let end = shape.heap_len() as u32;
     for offset in [end - 1, end, u32::MAX] {
-        for operation in [FREE, REMAINING, COPY_BYTES, COPY_STRING, COPY_PADDED] {
+        for operation in [FREE, REMAINING, COPY_BYTES, COPY_STRING, COPY_PADDED, READ] {
             session.run(tester, operation, offset);
         }
+        session.read_twice(tester, offset, 4, PAGE);
     }
 }
 
 /// Copies that are longer than any slot.
 fn long_copies(tester: &mut Tester, session: &mut Session, offset: u32) {
     let mut source = vec![0x5A; 20_000];
-    session.serve(tester, &inputs::request(COPY_BYTES, offset, 0), &source);
+    let request = inputs::request(COPY_BYTES, offset, 0);
+    session.serve(tester, &request, &source, PAGE);
     source[17_000] = 0;
-    session.serve(
-        tester,
-        &inputs::request(COPY_STRING, offset + 1, 0),
-        &source,
-    );
+    let request = inputs::request(COPY_STRING, offset + 1, 0);
+    session.serve(tester, &request, &source, PAGE);
     let request = inputs::request(COPY_PADDED, offset + 2, u32::MAX);
-    session.serve(tester, &request, &[1, 2, 3, 4, 5]);
+    session.serve(tester, &request, &[1, 2, 3, 4, 5], PAGE);
+}
+
+/// Reads past the end of the first and the last object of a region.
+fn edge_reads(tester: &mut Tester, session: &mut Session, start: u32) {
+    let last = start + session.shape.region as u32 - 1;
+    session.read(tester, start, u32::MAX, PAGE);
+    let request = inputs::request(READ, last, 2);
+    session.serve(tester, &request, b"text", PAGE);
 }
 
 /// Walks that start anywhere in a class.
@@ -438,21 +564,42 @@ fn wrong_lengths(tester: &mut Tester, rng: &mut Random) {
             guard,
         };
         let (z, w) = (rng.pick(&[0, 1, 9]), rng.pick(&[0, 1, 9]));
-        session.serve(tester, &random_request(rng, &session.shape, &[]), b"text");
+        random_serve(tester, rng, &mut session, &[]);
         session.open(tester, z, w);
-        session.serve(tester, &random_request(rng, &session.shape, &[]), b"text");
+        random_serve(tester, rng, &mut session, &[]);
+        random_read(tester, rng, &mut session, &[]);
     }
+}
+
+/// A request with its source and its page. Gives its first byte, where it has
+/// one, and the answer.
+fn random_serve(
+    tester: &mut Tester,
+    rng: &mut Random,
+    session: &mut Session,
+    allocated: &[u32],
+) -> (Option<u8>, Answer) {
+    let request = random_request(rng, &session.shape, allocated);
+    let (source, page) = (inputs::source(rng), inputs::page(rng));
+    let answer = session.serve(tester, &request, &source, &page);
+    (request.first().copied(), answer)
+}
+
+fn random_read(tester: &mut Tester, rng: &mut Random, session: &mut Session, allocated: &[u32]) {
+    let offset = inputs::offset(rng, session.shape, allocated);
+    let (count, page) = (inputs::count(rng), inputs::page(rng));
+    session.read(tester, offset, count, &page);
 }
 
 /// Any request, seldom damaged.
 fn random_request(rng: &mut Random, shape: &Shape, allocated: &[u32]) -> Vec<u8> {
-    let operation = rng.pick(&[0, 0, 0, 0, 0, 1, 1, 2, 3, 4, 5, 5]);
+    let operation = rng.pick(&[0, 0, 0, 0, 0, 1, 1, 2, 3, 4, 5, 5, 6, 6]);
     let argument = match operation {
         ALLOCATE => inputs::size(rng),
         _ => inputs::offset(rng, *shape, allocated),
     };
     let count = match operation {
-        COPY_PADDED => inputs::count(rng),
+        COPY_PADDED | READ => inputs::count(rng),
         _ => 0,
     };
     let good = inputs::request(operation, argument, count);
@@ -507,10 +654,10 @@ fn random_step(
             let answer = session.run(tester, ALLOCATE, size);
             remember(allocated, answer);
         }
+        (71..=77, _) => random_read(tester, rng, session, allocated),
         _ => {
-            let request = random_request(rng, &session.shape, allocated);
-            let answer = session.serve(tester, &request, &inputs::source(rng));
-            if request.first() == Some(&ALLOCATE) {
+            let (operation, answer) = random_serve(tester, rng, session, allocated);
+            if operation == Some(ALLOCATE) {
                 remember(allocated, answer);
             }
         }
@@ -518,6 +665,7 @@ fn random_step(
     if rng.once_in(64) {
         cut_lengths(rng, session);
         session.run(tester, ALLOCATE, 8);
+        random_read(tester, rng, session, allocated);
         session.show_all();
     }
 }

@@ -22,7 +22,7 @@ fn run(input: &mut impl BufRead, output: &mut impl Write) -> io::Result<()> {
         if request.is_empty() {
             break;
         }
-        let answer = serve(&mut heap, &mut metadata, &request, &[]);
+        let answer = serve(&mut heap, &mut metadata, &request, &[], &[]);
         writeln!(output, "{line} {} {}", answer.number, answer.value)?;
     }
     Ok(())

@@ -1,8 +1,9 @@
 //! One request after another, for a count of instructions by valgrind's callgrind (tests/instructions):
-//! `instructions ours|second REQUEST` serves the request once, on a heap with regions of 4,096 bytes.
+//! `instructions ours|second REQUEST` serves the request once, on a heap with regions of 4,096 bytes;
+//! call-N is no request but a read of N bytes by its own call.
 
 use poheldu_tests::capi;
-use poheldu_tests::reference::{self, Answer};
+use poheldu_tests::reference::{self, Answer, Part};
 use std::hint::black_box;
 use std::process::ExitCode;
 
@@ -10,8 +11,20 @@ const HEAP: usize = 12 * 4096;
 
 /// Counted as `poheldu_serve` is: its name is what callgrind is told.
 #[inline(never)]
-fn second_serve(heap: &mut [u8], metadata: &mut [u8], request: &[u8], source: &[u8]) -> Answer {
-    reference::serve(heap, metadata, request, source)
+fn second_serve(
+    heap: &mut [u8],
+    metadata: &mut [u8],
+    request: &[u8],
+    source: &[u8],
+    page: &[u8],
+) -> Answer {
+    reference::serve(heap, metadata, request, source, page)
+}
+
+/// Counted as `poheldu_read` is.
+#[inline(never)]
+fn second_read(heap: &[u8], metadata: &[u8], offset: u32, count: u32, page: &[u8]) -> Part {
+    reference::read(heap, metadata, offset, count, page)
 }
 
 fn request(operation: u32, argument: u32, count: u32) -> [u8; 16] {
@@ -36,35 +49,39 @@ fn named(word: &str, at: u32) -> Option<([u8; 16], usize)> {
         "copy-64" => (request(3, at, 0), 64),
         "copy-256" => (request(3, at, 0), 256),
         "string-256" => (request(4, at, 0), 256),
+        "read-8" => (request(6, at, 8), 0),
+        "read-256" => (request(6, at, 256), 0),
         _ => return None,
     })
 }
 
+/// How many bytes a call of read asks for, where the word names one.
+fn called(word: &str) -> Option<u32> {
+    word.strip_prefix("call-")?.parse().ok()
+}
+
 fn main() -> ExitCode {
     let words: Vec<String> = std::env::args().skip(1).collect();
+    let (ours, word) = match &words[..] {
+        [who, word] => (who == "ours", word.as_str()),
+        _ => (false, ""),
+    };
     let mut heap = vec![0; HEAP];
     let mut metadata = vec![0; reference::metadata_length(HEAP)];
     reference::open(&heap, &mut metadata, 1, 1);
-    let at = reference::serve(&mut heap, &mut metadata, &request(0, 256, 0), &[]).value;
-    let source = [65; 256];
-    let (who, what) = match &words[..] {
-        [who, word] => (who.as_str(), named(word, at)),
-        _ => ("", None),
-    };
-    let Some((bytes, length)) = what else {
+    let place = request(0, 256, 0);
+    let at = reference::serve(&mut heap, &mut metadata, &place, &[], &[]).value;
+    if let Some(count) = called(word) {
+        let read = if ours { capi::read } else { second_read };
+        let (at, count) = black_box((at, count));
+        black_box(read(&heap, &metadata, at, count, &[]));
+    } else if let Some((bytes, length)) = named(word, at) {
+        let serve = if ours { capi::serve } else { second_serve };
+        let (request, source) = black_box((&bytes, &[65; 256][..length]));
+        black_box(serve(&mut heap, &mut metadata, request, source, &[]));
+    } else {
         eprintln!("usage: instructions ours|second REQUEST");
         return ExitCode::from(2);
-    };
-    let serve = if who == "ours" {
-        capi::serve
-    } else {
-        second_serve
-    };
-    black_box(serve(
-        &mut heap,
-        &mut metadata,
-        black_box(&bytes),
-        black_box(&source[..length]),
-    ));
+    }
     ExitCode::SUCCESS
 }

@@ -11,11 +11,12 @@ fn request(random: &mut Random) -> [u32; 4] {
         random.below(50_000)
     } as u32;
     let bits = random.between(1, 15);
-    match random.below(8) {
+    match random.below(9) {
         0..=2 => [0, random.below(1 << bits) as u32, 0, 0],
         3..=4 => [1, offset, 0, 0],
         5 => [2, offset, 0, 0],
         6 => [random.between(3, 4) as u32, offset, 0, 0],
+        7 => [6, offset, random.below(1 << bits) as u32, 0],
         _ => [
             random.below(8) as u32,
             offset,

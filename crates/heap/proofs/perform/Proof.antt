@@ -1,6 +1,7 @@
 -- `heap::perform` meets its contract, by the request: what an operation is not lent, it leaves.
 use borrow.Author.Needs.{needs}
 use Rattle.heap.proofs.Performing.{allocate-heap, free-heap, remaining-heap, remaining-metadata, copy-metadata}
+use Rattle.heap.proofs.Performing.{read-heap, read-metadata}
 use Rattle.heap.proofs.perform.Statement.{statement}
 use Rattle.heap.proofs.perform.Tie as tie
 
@@ -27,6 +28,12 @@ enum-known-request-4 c = search needs
 
 copy-requires : tie.Need-copy-requires
 copy-requires c κs = search needs
+
+enum-known-request-5 : tie.Need-enum-known-request-5
+enum-known-request-5 c = search needs
+
+read-requires : tie.Need-read-requires
+read-requires c κs = search needs
 
 same-length : tie.Need-same-length
 same-length c = search needs
@@ -61,6 +68,13 @@ returns-4 c =
     let done = c .before .before .copy .ensures in
     rw (c .before .before .before .before .before .before .request4 .given .1) (done .0, copy-metadata _ _ _ _ _, done .1)
 
+same-length-6 : tie.Need-same-length-6
+same-length-6 c = search needs
+
+returns-5 : tie.Need-returns-5
+returns-5 c =
+    rw (c .before .before .before .request5 .given .1) (c .read .ensures .0, read-metadata _ _ _ _ _, read-heap _ _ _ _ _ _)
+
 pub perform-spec : {M : Type 1} → statement M
 perform-spec =
     tie.close
@@ -73,6 +87,8 @@ perform-spec =
     remaining-requires
     enum-known-request-4
     copy-requires
+    enum-known-request-5
+    read-requires
     same-length
     returns
     same-length-2
@@ -81,4 +97,6 @@ perform-spec =
     returns-3
     same-length-4
     same-length-5
-    returns-4)
+    returns-4
+    same-length-6
+    returns-5)

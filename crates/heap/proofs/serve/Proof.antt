@@ -1,7 +1,7 @@
 -- `heap::serve` meets its contract, by the judgement of the lengths.
 use borrow.Author.Needs.{needs}
 use mathlib.Core.Path.{refl, sym, _∙_}
-use Rattle.rules.proofs.Serving.{laid-fits, call-unfit, call-acts}
+use Rattle.rules.proofs.Serving.{laid-fits, serving-unfit, serving-acts}
 use Rattle.heap.proofs.serve.Statement.{statement}
 use Rattle.heap.proofs.serve.Tie as tie
 
@@ -22,7 +22,7 @@ act-requires c κs =
 returns : tie.Need-returns
 returns c =
     let unfit = sym (c .before .before .before .lengths .ensures) ∙ c .before .refusal .given .1 in
-    rw (call-unfit _ _ _ _ unfit) (refl, refl, refl)
+    rw (serving-unfit _ _ _ _ unfit) (refl, refl, refl)
 
 same-length : tie.Need-same-length
 same-length c = search needs
@@ -34,7 +34,7 @@ returns-2 : tie.Need-returns-2
 returns-2 c =
     let judged = c .before .before .before .before .before .before .before .before in
     let laid = sym (judged .before .before .lengths .ensures) ∙ judged .layout .given .1 in
-    rw (call-acts _ _ _ _ laid) (c .before .before .before .before .act .ensures)
+    rw (serving-acts _ _ _ _ laid) (c .before .before .before .before .act .ensures)
 
 pub serve-spec : {M : Type 1} → statement M
 serve-spec =

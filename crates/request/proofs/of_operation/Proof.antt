@@ -1,6 +1,6 @@
 -- `of_operation` meets its contract, by the operation.
-use Prim.Native.Nat.{_≤_}
-use mathlib.Core.Path.{sym}
+use Prim.Native.Nat.{ℕ, suc, _≤_, zero-le}
+use mathlib.Core.Path.{_≡_, sym}
 use mathlib.Core.List.{map}
 use native.Mathlib.Omega.{arith}
 use lib.ListN.{List·getD-eq-default}
@@ -28,10 +28,19 @@ returns-6 : tie.Need-returns-6
 returns-6 c = rw (c .match .keys6)
 
 returns-7 : tie.Need-returns-7
-returns-7 c =
-    let above : 6 ≤ c .before .args .code = omega arith in
+returns-7 c = rw (c .match .keys7)
+
+-- a number from k on that is not k
+from-next : {k n : ℕ} → k ≤ n → (n ≡ k → ⊥) → suc k ≤ n
+from-next h other = omega arith
+
+returns-8 : tie.Need-returns-8
+returns-8 c =
+    let (((((((_, no0), no1), no2), no3), no4), no5), no6) = c .match .rest in
+    let three = from-next (from-next (from-next zero-le no0) no1) no2 in
+    let above = from-next (from-next (from-next (from-next three no3) no4) no5) no6 in
     sym (List·getD-eq-default (map Whole (operations (c .before .args .argument) (c .before .args .count))) Malformed above)
 
 pub of-operation-spec : {M : Type 1} → statement M
 of-operation-spec =
-    tie.close (tie.spec returns returns-2 returns-3 returns-4 returns-5 returns-6 returns-7)
+    tie.close (tie.spec returns returns-2 returns-3 returns-4 returns-5 returns-6 returns-7 returns-8)

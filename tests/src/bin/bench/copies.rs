@@ -29,7 +29,8 @@ fn copy(name: &str, operation: u32, size: usize) {
             &mut || {
                 let Heap { bytes, metadata } = &mut *heap.borrow_mut();
                 repeat(CALLS, &source[..], |source| {
-                    black_box(capi::serve(bytes, metadata, black_box(&request), source));
+                    let request = black_box(&request);
+                    black_box(capi::serve(bytes, metadata, request, source, &[]));
                 })
             },
             &mut || {
@@ -43,12 +44,8 @@ fn copy(name: &str, operation: u32, size: usize) {
             &mut || {
                 let Heap { bytes, metadata } = &mut *heap.borrow_mut();
                 repeat(CALLS, &source[..], |source| {
-                    black_box(reference::serve(
-                        bytes,
-                        metadata,
-                        black_box(&request),
-                        source,
-                    ));
+                    let request = black_box(&request);
+                    black_box(reference::serve(bytes, metadata, request, source, &[]));
                 })
             },
         ],

@@ -25,6 +25,10 @@ pub fn remaining(offset: u32) -> Request {
     request(2, offset, 0)
 }
 
+pub fn read(offset: u32, count: usize) -> Request {
+    request(6, offset, count as u32)
+}
+
 /// A number for tables, with its thousands set off.
 pub fn figure(number: usize) -> String {
     if number < 1000 {
@@ -51,7 +55,7 @@ impl Heap {
     }
 
     pub fn serve(&mut self, request: &Request) -> Answer {
-        capi::serve(&mut self.bytes, &mut self.metadata, request, &[])
+        capi::serve(&mut self.bytes, &mut self.metadata, request, &[], &[])
     }
 
     /// Allocates objects of one size, and gives their offsets.

@@ -6,6 +6,7 @@ mod copies;
 mod heap;
 mod measure;
 mod operations;
+mod reads;
 mod stream;
 mod votes;
 
@@ -30,6 +31,7 @@ fn all(benchrun: &str) {
         operations::table(region);
     }
     operations::growth();
+    reads::table();
     votes::table();
     copies::table();
     for region in [65536, 1 << 20] {

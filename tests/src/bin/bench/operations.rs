@@ -1,6 +1,6 @@
 //! Each operation against the second implementation, both on the same heap and with the same requests.
 
-use crate::heap::{allocate, figure, free, remaining, request, Heap, Request};
+use crate::heap::{allocate, figure, free, read, remaining, request, Heap, Request};
 use crate::measure::{head, repeat, row, time};
 use crate::votes;
 use poheldu_tests::reference::Answer;
@@ -10,6 +10,11 @@ use std::hint::black_box;
 
 /// The calls of a round.
 const CALLS: usize = 512;
+
+/// Serves a request: on a heap and its metadata, with a source and a page.
+trait Serve: Fn(&mut [u8], &mut [u8], &[u8], &[u8], &[u8]) -> Answer {}
+
+impl<F: Fn(&mut [u8], &mut [u8], &[u8], &[u8], &[u8]) -> Answer> Serve for F {}
 
 /// Requests on a heap in a known state, and the refusal's number that all of them get.
 struct Case {
@@ -32,9 +37,12 @@ impl Case {
         }
     }
 
-    fn answers(&self, serve: impl Fn(&mut [u8], &mut [u8], &[u8], &[u8]) -> Answer) -> Vec<Answer> {
-        let mut heap = self.heap.clone();
-        let mut one = |r: &Request| serve(&mut heap.bytes, &mut heap.metadata, r, &self.source);
+    fn answers(&self, serve: impl Serve) -> Vec<Answer> {
+        let Heap {
+            mut bytes,
+            mut metadata,
+        } = self.heap.clone();
+        let mut one = |r: &Request| serve(&mut bytes, &mut metadata, r, &self.source, &[]);
         self.requests.iter().map(&mut one).collect()
     }
 
@@ -74,7 +82,7 @@ impl Stage<'_> {
         }
     }
 
-    fn run(&mut self, serve: impl Fn(&mut [u8], &mut [u8], &[u8], &[u8]) -> Answer) -> f64 {
+    fn run(&mut self, serve: impl Serve) -> f64 {
         for metadata in &mut self.metadata {
             metadata.copy_from_slice(&self.case.heap.metadata);
         }
@@ -82,7 +90,8 @@ impl Stage<'_> {
             for metadata in &mut self.metadata {
                 for request in &self.case.requests {
                     let request = black_box(&request[..]);
-                    black_box(serve(&mut self.bytes, metadata, request, &self.case.source));
+                    let source = &self.case.source;
+                    black_box(serve(&mut self.bytes, metadata, request, source, &[]));
                 }
             }
         })
@@ -137,6 +146,7 @@ fn refusals(region: usize) -> Vec<Case> {
         case("free refused, not a slot start", 9, free(at + 1)),
         case("free refused, not allocated", 10, free(clear)),
         case("remaining size refused", 8, remaining(end)),
+        case("read refused", 8, read(end, 256)),
     ]
 }
 
@@ -151,6 +161,8 @@ fn lookups_and_copies(region: usize) -> Vec<Case> {
     vec![
         case("remaining size, live", remaining(at + 1), &[]),
         case("remaining size, nothing live", remaining(0), &[]),
+        case("read, 256 clipped to 255", read(at + 1, 256), &[]),
+        case("read, nothing live", read(0, 256), &[]),
         case("copy bytes, none", bytes, &[]),
         case("copy bytes, 256", bytes, &text[..256]),
         case("copy bytes, 300 clipped to 256", bytes, &text),

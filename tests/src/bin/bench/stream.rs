@@ -23,7 +23,7 @@ fn requests() -> Vec<u8> {
     let mut input = Vec::with_capacity(16 * REQUESTS);
     while input.len() < 16 * REQUESTS {
         let request = next(&mut random, &mut live);
-        let answer = reference::serve(&mut heap, &mut metadata, &request, &[]);
+        let answer = reference::serve(&mut heap, &mut metadata, &request, &[], &[]);
         if request[0] == 0 && answer.number == 0 {
             live.push(answer.value);
         }

@@ -6,7 +6,8 @@ use native.Mathlib.Nat.{le-of-lt}
 use Rattle.geometry.specs.Layout.{locate}
 use Rattle.geometry.proofs.Slots.{into-lt}
 use Rattle.rules.specs.Object.{isLive}
-use Rattle.heap.proofs.Live.{tested-live, live-lt, space-live, space-none}
+use Rattle.rules.proofs.Space.{live-lt}
+use Rattle.heap.proofs.Live.{tested-live, space-live, space-none}
 use Rattle.heap.proofs.Part.{within}
 use Rattle.heap.proofs.object.space.Statement.{statement}
 use Rattle.heap.proofs.object.space.Tie as tie

@@ -1,8 +1,8 @@
--- `word_bytes` cuts a word where the text ends.
-use Rattle.line.proofs.Reading.{word-within}
+-- `between` cuts a part where the slice ends.
+use Rattle.slices.proofs.Cut.{part-within}
 use borrow.Author.Needs.{needs}
-use Rattle.line.proofs.scan.word_bytes.Statement.{statement}
-use Rattle.line.proofs.scan.word_bytes.Tie as tie
+use Rattle.slices.proofs.between.Statement.{statement}
+use Rattle.slices.proofs.between.Tie as tie
 
 least-requires : tie.Need-least-requires
 least-requires c κs = search needs
@@ -20,9 +20,9 @@ part-result-end : tie.Need-part-result-end
 part-result-end c = search needs
 
 returns : tie.Need-returns
-returns c = word-within _ _ (c .before .before .least .ensures) (c .before .least2 .ensures)
+returns c = part-within _ _ _ (c .before .before .least .ensures) (c .before .least2 .ensures)
 
-pub word-bytes-spec : {M : Type 1} → statement M
-word-bytes-spec =
+pub between-spec : {M : Type 1} → statement M
+between-spec =
     tie.close
     (tie.spec least-requires least-requires-2 sub-result part-result-start part-result-end returns)

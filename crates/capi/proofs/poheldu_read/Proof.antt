@@ -1,0 +1,55 @@
+-- `capi::poheldu_read` meets its contract, by where the bytes lie.
+use borrow.Author.Needs.{needs}
+use mathlib.Core.Path.{ap, _∙_}
+use Rattle.answer.specs.Reply.{Reply}
+use Rattle.capi.proofs.poheldu_read.Statement.{statement}
+use Rattle.capi.proofs.poheldu_read.Tie as tie
+
+look-requires : tie.Need-look-requires
+look-requires c κs = search needs
+
+enum-known-view : tie.Need-enum-known-view
+enum-known-view c = search needs
+
+number-requires : tie.Need-number-requires
+number-requires c κs = search needs
+
+value-requires : tie.Need-value-requires
+value-requires c κs = search needs
+
+enum-told : tie.Need-enum-told
+enum-told c = search needs
+
+number-requires-2 : tie.Need-number-requires-2
+number-requires-2 c κs = search needs
+
+value-requires-2 : tie.Need-value-requires-2
+value-requires-2 c κs = search needs
+
+returns : tie.Need-returns
+returns c =
+    let seen = c .before .before .before .before .before .look .ensures in
+    let number = c .before .number .ensures ∙ ap (λ (r : Reply). r .number) (seen .0) in
+    let value = c .value .ensures ∙ ap (λ (r : Reply). r .value) (seen .0) in
+    rw (number, value, ← seen .1, c .before .before .before .view .given .1)
+
+returns-2 : tie.Need-returns-2
+returns-2 c =
+    let seen = c .before .before .before .before .look .ensures in
+    let number = c .before .number2 .ensures ∙ ap (λ (r : Reply). r .number) (seen .0) in
+    let value = c .value2 .ensures ∙ ap (λ (r : Reply). r .value) (seen .0) in
+    rw (number, value, ← seen .1, c .before .before .enum-told .given .1)
+
+pub poheldu-read-spec : {M : Type 1} → statement M
+poheldu-read-spec =
+    tie.close
+    (tie.spec
+    look-requires
+    enum-known-view
+    number-requires
+    value-requires
+    enum-told
+    number-requires-2
+    value-requires-2
+    returns
+    returns-2)

@@ -1,0 +1,21 @@
+-- `heap::read` meets its contract: the bytes of the view that was found.
+use borrow.Author.Needs.{needs}
+use mathlib.Core.Path.{_∙_}
+use Rattle.heap.proofs.Viewing.{all-shown}
+use Rattle.heap.proofs.read.Statement.{statement}
+use Rattle.heap.proofs.read.Tie as tie
+
+look-requires : tie.Need-look-requires
+look-requires c κs = search needs
+
+bytes-requires : tie.Need-bytes-requires
+bytes-requires c κs = search needs
+
+returns : tie.Need-returns
+returns c =
+    let a = c .before .before .before .before .before .args in
+    all-shown (a .heap .now) (a .metadata .now) (a .offset) (a .count) (a .page .now)
+    (c .bytes .ensures ∙ rw (c .before .look .ensures .1))
+
+pub read-spec : {M : Type 1} → statement M
+read-spec = tie.close (tie.spec look-requires bytes-requires returns)
