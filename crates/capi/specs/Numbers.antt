@@ -4,8 +4,8 @@ use mathlib.Core.Bool.{cond}
 use lib.Dec.{eqb}
 use Rattle.answer.specs.Reply.{Reply}
 use Rattle.geometry.specs.Layout.{regionOf, layoutOf, metadataLength}
-use Rattle.rules.specs.declared.View.{View}
-use Rattle.rules.specs.declared.View.the-variants.{Heap, Page}
+use Rattle.rules.specs.declared.Place.{Place}
+use Rattle.rules.specs.declared.Place.the-variants.{Heap, Page}
 use Rattle.rules.specs.Call.{Call}
 use Rattle.vote.specs.Decide.{Tally}
 use Rattle.capi.specs.declared.PohelduAnswer.{PohelduAnswer}
@@ -18,14 +18,14 @@ replyIn a = record { number = a .number; value = a .value }
 abbrev pub tallyIn : PohelduVerdict → Tally
 tallyIn v = record { number = v .number; mask = v .mask; value = v .value; replica = v .replica }
 
--- 1 for a view of the page; and where a view starts
-abbrev pub ofPage : View → ℕ
-ofPage (Heap offset n) = 0
-ofPage (Page n) = 1
+-- 1 for the page; and where a place lies in the heap or in the page
+abbrev pub ofPage : Place → ℕ
+ofPage (Heap offset) = 0
+ofPage Page = 1
 
-abbrev pub startOf : View → ℕ
-startOf (Heap offset n) = offset
-startOf (Page n) = 0
+abbrev pub startOf : Place → ℕ
+startOf (Heap offset) = offset
+startOf Page = 0
 
 -- a read's answer, and where the bytes lie that it shows
 abbrev pub partOf : Call → PohelduPart
@@ -33,8 +33,8 @@ partOf c =
     record {
       number = c .answer .number;
       value = c .answer .value;
-      «of_page» = ofPage (c .view);
-      start = startOf (c .view);
+      «of_page» = ofPage (c .view .place);
+      start = startOf (c .view .place);
     }
 
 -- the metadata's length for a heap's length; 0 where no heap has it

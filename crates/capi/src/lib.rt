@@ -10,7 +10,7 @@ ghost use Rattle.vote.specs.Decide.{decide, tally, outputAfter, NamesWinner};
 ghost use Rattle.capi.specs.Numbers.{replyIn, tallyIn, partOf, metadataBytes};
 use answer::Answer;
 use geometry::Plan;
-use rules::View;
+use rules::Place;
 use vote::Verdict;
 
 #[repr(C)]
@@ -85,14 +85,15 @@ pub extern "C" fn poheldu_read(
     let seen = heap::look(heap, metadata, offset, count, page);
     let answer = seen.answer;
     let view = seen.view;
-    match view {
-        View::Heap(start, _) => PohelduPart {
+    let place = view.place;
+    match place {
+        Place::Heap(start) => PohelduPart {
             number: answer.number(),
             value: answer.value(),
             of_page: 0,
             start,
         },
-        View::Page(_) => PohelduPart {
+        Place::Page => PohelduPart {
             number: answer.number(),
             value: answer.value(),
             of_page: 1,

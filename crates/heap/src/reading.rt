@@ -5,12 +5,14 @@ use answer::Refusal;
 use geometry::CLASSES;
 use geometry::Layout;
 use numbers::wide;
+use rules::Place;
 use rules::View;
 ghost use mathlib.Core.Path.{_≡_};
 ghost use lib.ListN.{length};
 ghost use Rattle.geometry.specs.Layout.{heapLength};
 ghost use Rattle.answer.specs.Reply.{replyOf};
 ghost use Rattle.rules.specs.Judge.{Fits};
+ghost use Rattle.rules.specs.View.{noView};
 ghost use Rattle.rules.specs.Outcome.{reply, viewOf};
 ghost use Rattle.rules.specs.Read.{read};
 
@@ -22,11 +24,15 @@ pub struct Seen {
 
 // A refused read shows the empty part of the page.
 pub fn refused(refusal: Refusal) -> Seen
-    ensures { λ r. ⌜ (r .answer ≡ Answer.Refused refusal) × (r .view ≡ View.Page 0) ⌝ }
+    ensures { λ r. ⌜ (r .answer ≡ Answer.Refused refusal) × (r .view ≡ noView) ⌝ }
 {
+    let view = View {
+        place: Place::Page,
+        len: 0,
+    };
     Seen {
         answer: Answer::Refused(refusal),
-        view: View::Page(0),
+        view,
     }
 }
 
@@ -42,7 +48,7 @@ pub fn read(metadata: &[u8], layout: Layout, offset: u32, count: u32, page_len: 
     let room = object::space(metadata, layout, offset);
     let view = view::within(offset, room, count, page_len);
     Seen {
-        answer: Answer::Served(view::len(view)),
+        answer: Answer::Served(view.len),
         view,
     }
 }

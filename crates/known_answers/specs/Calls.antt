@@ -6,8 +6,8 @@ use Rattle.mwc.specs.declared.Generator.{Generator}
 use Rattle.geometry.specs.Layout.{layoutOf, classes, metadataLength}
 use Rattle.request.specs.Parse.{requestBytes}
 use Rattle.answer.specs.Reply.{Reply}
-use Rattle.rules.specs.declared.View.{View}
-use Rattle.rules.specs.declared.View.the-variants.{Heap, Page}
+use Rattle.rules.specs.declared.Place.{Place}
+use Rattle.rules.specs.declared.Place.the-variants.{Heap, Page}
 use Rattle.rules.specs.Metadata.{withGenerator}
 use Rattle.rules.specs.View.{viewBytes}
 use Rattle.rules.specs.Open.{setup}
@@ -64,15 +64,15 @@ unfoldable pub after : ℕ → List ℕ → List ℕ → List ℕ
 after R m r = call (heapOf R) m r (lent []) .metadata
 
 -- where bytes lie that are shown: 0 and their offset in the heap, or 1 for the front of the page
-unfoldable pub placeOf : View → List ℕ
-placeOf (Heap offset n) = 0 ∷ offset ∷ []
-placeOf (Page n) = 1 ∷ []
+unfoldable pub placeOf : Place → List ℕ
+placeOf (Heap offset) = 0 ∷ offset ∷ []
+placeOf Page = 1 ∷ []
 
 -- the answer to a request that is lent a heap and a page, and where the bytes lie that it shows, and these bytes
 unfoldable pub showing : List ℕ → List ℕ → ℕ → List ℕ → List ℕ → List ℕ
 showing heap page R m r =
     let c : Call = call (heapOf R) m r (lentWith [] page) in
-    numbers (c .answer) ++ (placeOf (c .view) ++ viewBytes (c .view) heap page)
+    numbers (c .answer) ++ (placeOf (c .view .place) ++ viewBytes (c .view) heap page)
 
 -- ---- votes
 

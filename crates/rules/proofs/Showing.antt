@@ -7,7 +7,7 @@ use mathlib.Core.List.{List, []}
 use native.Mathlib.Omega.{arith}
 use borrow.Author.Tests.{leb-false}
 use lib.Dec.{leb, eqb}
-use lib.ListN.{length, length-take, length-drop}
+use lib.ListN.{length, take, length-take, length-drop}
 use Rattle.geometry.specs.declared.Layout.{Layout}
 use Rattle.answer.specs.declared.Refusal.{Refusal}
 use Rattle.geometry.specs.Layout.{heapLength}
@@ -15,11 +15,12 @@ use Rattle.request.specs.declared.Request.the-variants.{Read}
 use Rattle.request.specs.declared.Parsed.the-variants.{Whole}
 use Rattle.request.specs.Parse.{requestBytes}
 use Rattle.request.proofs.Parsing.{encoded}
+use Rattle.rules.specs.declared.Place.{Place}
+use Rattle.rules.specs.declared.Place.the-variants.{Heap, Page}
 use Rattle.rules.specs.declared.View.{View}
-use Rattle.rules.specs.declared.View.the-variants.{Heap, Page}
 use Rattle.rules.specs.declared.Judged.{Judged}
 use Rattle.rules.specs.declared.Judged.the-variants.{Laid, Unfit}
-use Rattle.rules.specs.View.{viewLength, viewBytes}
+use Rattle.rules.specs.View.{bytesFrom, viewBytes}
 use Rattle.rules.specs.Judge.{judge}
 use Rattle.rules.specs.Outcome.{Outcome, shown, reply, viewOf}
 use Rattle.rules.specs.Object.{space}
@@ -30,15 +31,22 @@ use Rattle.rules.proofs.Space.{space-within}
 use Rattle.rules.proofs.Results.{Comes, refuses, serves, read-comes}
 use Rattle.rules.proofs.Serving.{laid-fits, serving-unfit, serving-acts}
 
--- bytes of a heap and a page of these lengths
-abbrev pub Lies : ℕ → ℕ → View → Type 0
-Lies heapBytes pageBytes (Heap offset n) = offset + n ≤ heapBytes
-Lies heapBytes pageBytes (Page n) = n ≤ pageBytes
+-- n bytes from a place on are bytes of a heap and a page of these lengths
+abbrev Ends : ℕ → ℕ → ℕ → Place → Type 0
+Ends heapBytes pageBytes n (Heap offset) = offset + n ≤ heapBytes
+Ends heapBytes pageBytes n Page = n ≤ pageBytes
 
--- of which there are as many as the view says
-pub view-length : (heap page : List ℕ) (v : View) → Lies (length heap) (length page) v → length (viewBytes v heap page) ≡ viewLength v
-view-length heap page (Heap offset n) h = simp (length-take, length-drop) (omega arith)
-view-length heap page (Page n) h = simp length-take (omega arith)
+abbrev pub Lies : ℕ → ℕ → View → Type 0
+Lies heapBytes pageBytes v = Ends heapBytes pageBytes (v .len) (v .place)
+
+-- so there are as many
+from-length : (heap page : List ℕ) (n : ℕ) (p : Place) → Ends (length heap) (length page) n p
+    → length (take n (bytesFrom p heap page)) ≡ n
+from-length heap page n (Heap offset) h = simp (length-take, length-drop) (omega arith)
+from-length heap page n Page h = simp length-take (omega arith)
+
+pub view-length : (heap page : List ℕ) (v : View) → Lies (length heap) (length page) v → length (viewBytes v heap page) ≡ v .len
+view-length heap page v h = from-length heap page (v .len) (v .place) h
 
 -- those in a room that ends within the heap
 room-lies : (n offset room count pageBytes : ℕ) → offset + room ≤ n → Lies n pageBytes (viewIn offset room count pageBytes)
@@ -60,7 +68,7 @@ module _ (G : Layout) (m : List ℕ) (offset count pageBytes : ℕ) where
           rw (e, read) (room-lies (heapLength G) offset (space G m offset) count pageBytes (space-within G m offset inside .0))
 
 -- a refusal shows nothing, so its value is that length too
-counted : (G : Layout) {v : View} {o : Outcome} → Comes (shown v) o → reply G o .value ≡ viewLength (viewOf o)
+counted : (G : Layout) {v : View} {o : Outcome} → Comes (shown v) o → reply G o .value ≡ viewOf o .len
 counted G (refuses r) = refl
 counted G serves = refl
 
@@ -79,9 +87,9 @@ module _ (n : ℕ) (m : List ℕ) (offset count : ℕ) (page : List ℕ) where
   shown-lies =
       reading-comes (λ c. Lies n (length page) (c .view)) (λ r. zero-le) (λ G e. rw e (read-lies G m offset count (length page)))
 
-  pub shown-value : reading n m offset count page .answer .value ≡ viewLength (reading n m offset count page .view)
+  pub shown-value : reading n m offset count page .answer .value ≡ reading n m offset count page .view .len
   shown-value =
-      reading-comes (λ c. c .answer .value ≡ viewLength (c .view)) (λ r. refl) (λ G e. counted G (read-comes G m offset count (length page)))
+      reading-comes (λ c. c .answer .value ≡ c .view .len) (λ r. refl) (λ G e. counted G (read-comes G m offset count (length page)))
 
   -- the bytes of a read ask for it, whatever source is lent
   pub read-request : (source : List ℕ) → offset < 2 ^ 32 → count < 2 ^ 32

@@ -11,7 +11,7 @@ use Rattle.answer.specs.Reply.{Reply, served, refusedBy}
 use Rattle.writing.specs.Overwrite.{overwrite}
 use Rattle.rules.specs.declared.View.{View}
 use Rattle.rules.specs.Metadata.{withGenerator, bitmapOf}
-use Rattle.rules.specs.View.{viewLength, noView}
+use Rattle.rules.specs.View.{noView}
 
 pub data Outcome : Type 0 where
   refused : Refusal → Outcome
@@ -29,7 +29,7 @@ reply G (refused r) = refusedBy r
 reply G (allocated c i g) = served (slotStart G c i)
 reply G (freed c i) = served (slotSize G c)
 reply G (told value offset bytes) = served value
-reply G (shown v) = served (viewLength v)
+reply G (shown v) = served (v .len)
 
 abbrev pub metadataAfter : Layout → List ℕ → Outcome → List ℕ
 metadataAfter G m (refused r) = m

@@ -2,18 +2,21 @@
 use Prim.Native.Nat.{ℕ}
 use mathlib.Core.List.{List}
 use lib.ListN.{take, drop}
+use Rattle.rules.specs.declared.Place.{Place}
+use Rattle.rules.specs.declared.Place.the-variants.{Heap, Page}
 use Rattle.rules.specs.declared.View.{View}
-use Rattle.rules.specs.declared.View.the-variants.{Heap, Page}
 
--- how many, and which
-abbrev pub viewLength : View → ℕ
-viewLength (Heap offset n) = n
-viewLength (Page n) = n
+abbrev pub view : Place → ℕ → View
+view place n = record { place = place; len = n }
+
+-- what lies from a place on, and the bytes of a view
+abbrev pub bytesFrom : Place → List ℕ → List ℕ → List ℕ
+bytesFrom (Heap offset) heap page = drop offset heap
+bytesFrom Page heap page = page
 
 abbrev pub viewBytes : View → List ℕ → List ℕ → List ℕ
-viewBytes (Heap offset n) heap page = take n (drop offset heap)
-viewBytes (Page n) heap page = take n page
+viewBytes v heap page = take (v .len) (bytesFrom (v .place) heap page)
 
 -- the empty part of the page
 abbrev pub noView : View
-noView = Page 0
+noView = view Page 0

@@ -10,11 +10,16 @@ pub struct Found {
     pub generator: Generator,
 }
 
-// Bytes that are shown to the caller where they lie: so many of the heap from an offset on, or so many of the first
-// bytes of the fallback page, which is lent beside the heap.
-pub enum View {
-    Heap(u32, u32),
-    Page(u32),
+// Where bytes are shown from: an offset of the heap, or the front of the fallback page, which is lent beside it.
+pub enum Place {
+    Heap(u32),
+    Page,
+}
+
+// Bytes that are shown to the caller where they lie.
+pub struct View {
+    pub place: Place,
+    pub len: u32,
 }
 
 // What the lengths of a heap and its metadata come to.

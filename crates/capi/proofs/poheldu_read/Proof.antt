@@ -8,8 +8,8 @@ use Rattle.capi.proofs.poheldu_read.Tie as tie
 look-requires : tie.Need-look-requires
 look-requires c κs = search needs
 
-enum-known-view : tie.Need-enum-known-view
-enum-known-view c = search needs
+enum-known-place : tie.Need-enum-known-place
+enum-known-place c = search needs
 
 number-requires : tie.Need-number-requires
 number-requires c κs = search needs
@@ -28,14 +28,14 @@ value-requires-2 c κs = search needs
 
 returns : tie.Need-returns
 returns c =
-    let seen = c .before .before .before .before .before .look .ensures in
+    let seen = c .before .before .before .before .before .before .look .ensures in
     let number = c .before .number .ensures ∙ ap (λ (r : Reply). r .number) (seen .0) in
     let value = c .value .ensures ∙ ap (λ (r : Reply). r .value) (seen .0) in
-    rw (number, value, ← seen .1, c .before .before .before .view .given .1)
+    rw (number, value, ← seen .1, c .before .before .before .place .given .1)
 
 returns-2 : tie.Need-returns-2
 returns-2 c =
-    let seen = c .before .before .before .before .look .ensures in
+    let seen = c .before .before .before .before .before .look .ensures in
     let number = c .before .number2 .ensures ∙ ap (λ (r : Reply). r .number) (seen .0) in
     let value = c .value2 .ensures ∙ ap (λ (r : Reply). r .value) (seen .0) in
     rw (number, value, ← seen .1, c .before .before .enum-told .given .1)
@@ -45,7 +45,7 @@ poheldu-read-spec =
     tie.close
     (tie.spec
     look-requires
-    enum-known-view
+    enum-known-place
     number-requires
     value-requires
     enum-told

@@ -13,9 +13,9 @@ bytes-requires c κs = search needs
 
 returns : tie.Need-returns
 returns c =
-    let a = c .before .before .before .before .before .args in
+    let a = c .before .before .before .before .before .before .args in
     all-shown (a .heap .now) (a .metadata .now) (a .offset) (a .count) (a .page .now)
-    (c .bytes .ensures ∙ rw (c .before .look .ensures .1))
+    (c .bytes .ensures ∙ rw (c .before .before .look .ensures .1))
 
 pub read-spec : {M : Type 1} → statement M
 read-spec = tie.close (tie.spec look-requires bytes-requires returns)

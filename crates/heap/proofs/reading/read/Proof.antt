@@ -33,13 +33,9 @@ space-requires c κs = search needs
 within-requires : tie.Need-within-requires
 within-requires c κs = search needs
 
-len-requires : tie.Need-len-requires
-len-requires c κs = search needs
-
 returns-2 : tie.Need-returns-2
 returns-2 c =
-    let room = c .before .before in
-    rw (shows _ _ _ _ _ (omega arith) (room .space .ensures .0), ← c .before .within .ensures, c .len .ensures) (refl, refl)
+    rw (shows _ _ _ _ _ (omega arith) (c .before .space .ensures .0), c .within .ensures) (refl, refl)
 
 pub read-spec : {M : Type 1} → statement M
 read-spec =
@@ -52,5 +48,4 @@ read-spec =
     returns
     space-requires
     within-requires
-    len-requires
     returns-2)
