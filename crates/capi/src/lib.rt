@@ -82,9 +82,9 @@ pub extern "C" fn poheldu_read(
         let called = reading (length (now (heap .entry))) (now (metadata .entry)) offset count (now (page .entry)) in
         ⌜ r ≡ partOf called ⌝ }
 {
-    let seen = heap::look(heap, metadata, offset, count, page);
-    let answer = seen.answer;
-    let view = seen.view;
+    let looked = heap::look(heap, metadata, offset, count, page);
+    let answer = looked.answer();
+    let view = looked.view();
     let place = view.place;
     match place {
         Place::Heap(start) => PohelduPart {

@@ -10,7 +10,7 @@ use answer::Answer;
 use answer::Refusal;
 use geometry::Layout;
 use mwc::Generator;
-pub use reading::Seen;
+pub use reading::Looked;
 use request::Parsed;
 use request::Request;
 use rules::Judged;
@@ -23,6 +23,7 @@ ghost use Rattle.rules.specs.Judge.{Fits};
 ghost use Rattle.rules.specs.Open.{setup};
 ghost use Rattle.rules.specs.Serve.{lentWith, perform, act};
 ghost use Rattle.rules.specs.Call.{calledBy, call, reading, opening};
+ghost use Rattle.heap.specs.Looked.{answerOf, viewShown};
 
 // Writes fresh metadata for a heap of this length. The heap's bytes are left alone.
 pub fn open(heap: &[u8], metadata: &mut [u8], z: u32, w: u32) -> Answer
@@ -67,8 +68,7 @@ fn perform(
         Request::Remaining(offset) => object::remaining(metadata, layout, offset),
         Request::Copy(offset, kind) => copy::copy(heap, metadata, layout, offset, kind, source),
         Request::Read(offset, count) => {
-            let seen = reading::read(metadata, layout, offset, count, page.len());
-            seen.answer
+            reading::read(metadata, layout, offset, count, page.len()).answer()
         }
     }
 }
@@ -116,14 +116,14 @@ pub fn serve(
     }
 }
 
-// A read's answer, and where the bytes lie that it shows.
-pub fn look(heap: &[u8], metadata: &[u8], offset: u32, count: u32, page: &[u8]) -> Seen
+// A read with plain arguments.
+pub fn look(heap: &[u8], metadata: &[u8], offset: u32, count: u32, page: &[u8]) -> Looked
     ensures { λ r.
         let called = reading (length (now (heap .entry))) (now (metadata .entry)) offset count (now (page .entry)) in
-        ⌜ (replyOf (r .answer) ≡ called .answer) × (r .view ≡ called .view) ⌝ }
+        ⌜ (answerOf r ≡ called .answer) × (viewShown r ≡ called .view) ⌝ }
 {
     match judge::lengths(heap.len(), metadata.len()) {
-        Judged::Unfit(refusal) => reading::refused(refusal),
+        Judged::Unfit(refusal) => Looked::Refused(refusal),
         Judged::Laid(layout) => reading::read(metadata, layout, offset, count, page.len()),
     }
 }
@@ -141,7 +141,5 @@ pub fn read<'a>(
         ⌜ (now r ≡ viewBytes (called .view) (now (heap .entry)) (now (page .entry)))
         × (length (now r) ≡ called .answer .value) ⌝ }
 {
-    let seen = look(heap, metadata, offset, count, page);
-    let view = seen.view;
-    view::bytes(view, heap, page)
+    view::bytes(look(heap, metadata, offset, count, page).view(), heap, page)
 }

@@ -12,43 +12,49 @@ ghost use lib.ListN.{length};
 ghost use Rattle.geometry.specs.Layout.{heapLength};
 ghost use Rattle.answer.specs.Reply.{replyOf};
 ghost use Rattle.rules.specs.Judge.{Fits};
-ghost use Rattle.rules.specs.View.{noView};
 ghost use Rattle.rules.specs.Outcome.{reply, viewOf};
 ghost use Rattle.rules.specs.Read.{read};
+ghost use Rattle.heap.specs.Looked.{answerOf, viewShown};
 
-// A read's answer, and where the bytes lie that it shows.
-pub struct Seen {
-    pub answer: Answer,
-    pub view: View,
+// What a read comes to: bytes that are shown where they lie.
+pub enum Looked {
+    Shown(View),
+    Refused(Refusal),
 }
 
-// A refused read shows the empty part of the page.
-pub fn refused(refusal: Refusal) -> Seen
-    ensures { λ r. ⌜ (r .answer ≡ Answer.Refused refusal) × (r .view ≡ noView) ⌝ }
-{
-    let view = View {
-        place: Place::Page,
-        len: 0,
-    };
-    Seen {
-        answer: Answer::Refused(refusal),
-        view,
+impl Looked {
+    pub fn answer(self) -> Answer
+        ensures { λ r. ⌜ replyOf r ≡ answerOf self ⌝ }
+    {
+        match self {
+            Looked::Shown(view) => Answer::Served(view.len),
+            Looked::Refused(refusal) => Answer::Refused(refusal),
+        }
+    }
+
+    // The empty part of the page where it is refused.
+    pub fn view(self) -> View
+        ensures { λ r. ⌜ r ≡ viewShown self ⌝ }
+    {
+        match self {
+            Looked::Shown(view) => view,
+            Looked::Refused(_) => View {
+                place: Place::Page,
+                len: 0,
+            },
+        }
     }
 }
 
-pub fn read(metadata: &[u8], layout: Layout, offset: u32, count: u32, page_len: usize) -> Seen
+pub fn read(metadata: &[u8], layout: Layout, offset: u32, count: u32, page_len: usize) -> Looked
     requires { ⌜ Fits layout (heapLength layout) (length (now metadata)) ⌝ }
     ensures { λ r.
         let outcome = read layout (now (metadata .entry)) offset count «page_len» in
-        ⌜ (replyOf (r .answer) ≡ reply layout outcome) × (r .view ≡ viewOf outcome) ⌝ }
+        ⌜ (answerOf r ≡ reply layout outcome) × (viewShown r ≡ viewOf outcome) ⌝ }
 {
     if CLASSES * wide(layout.region) <= wide(offset) {
-        return refused(Refusal::OutOfRange);
+        return Looked::Refused(Refusal::OutOfRange);
     }
     let room = object::space(metadata, layout, offset);
-    let view = view::within(offset, room, count, page_len);
-    Seen {
-        answer: Answer::Served(view.len),
-        view,
-    }
+    Looked::Shown(view::within(offset, room, count, page_len))
 }

@@ -11,9 +11,6 @@ lengths-requires c κs = search needs
 enum-known-refusal : tie.Need-enum-known-refusal
 enum-known-refusal c = search needs
 
-refused-requires : tie.Need-refused-requires
-refused-requires c κs = search needs
-
 enum-known-layout : tie.Need-enum-known-layout
 enum-known-layout c = search needs
 
@@ -25,10 +22,8 @@ read-requires c κs =
 
 returns : tie.Need-returns
 returns c =
-    let judged = c .before .before .before .before in
-    let unfit = sym (judged .lengths .ensures) ∙ c .before .before .refusal .given .1 in
-    let done = c .refused .ensures in
-    rw (serving-unfit _ _ _ _ unfit, done .0, done .1) (refl, refl)
+    let unfit = sym (c .before .before .before .lengths .ensures) ∙ c .before .refusal .given .1 in
+    rw (serving-unfit _ _ _ _ unfit) (refl, refl)
 
 returns-2 : tie.Need-returns-2
 returns-2 c =
@@ -42,7 +37,6 @@ look-spec =
     (tie.spec
     lengths-requires
     enum-known-refusal
-    refused-requires
     enum-known-layout
     read-requires
     returns

@@ -1,5 +1,6 @@
 -- `heap::perform` meets its contract, by the request: what an operation is not lent, it leaves.
 use borrow.Author.Needs.{needs}
+use mathlib.Core.Path.{_∙_}
 use Rattle.heap.proofs.Performing.{allocate-heap, free-heap, remaining-heap, remaining-metadata, copy-metadata}
 use Rattle.heap.proofs.Performing.{read-heap, read-metadata}
 use Rattle.heap.proofs.perform.Statement.{statement}
@@ -34,6 +35,9 @@ enum-known-request-5 c = search needs
 
 read-requires : tie.Need-read-requires
 read-requires c κs = search needs
+
+answer-requires : tie.Need-answer-requires
+answer-requires c κs = search needs
 
 same-length : tie.Need-same-length
 same-length c = search needs
@@ -73,7 +77,11 @@ same-length-6 c = search needs
 
 returns-5 : tie.Need-returns-5
 returns-5 c =
-    rw (c .before .before .before .request5 .given .1) (c .read .ensures .0, read-metadata _ _ _ _ _, read-heap _ _ _ _ _ _)
+    rw (c .before .before .before .before .request5 .given .1) (
+      c .answer .ensures ∙ c .before .read .ensures .0,
+      read-metadata _ _ _ _ _,
+      read-heap _ _ _ _ _ _,
+    )
 
 pub perform-spec : {M : Type 1} → statement M
 perform-spec =
@@ -89,6 +97,7 @@ perform-spec =
     copy-requires
     enum-known-request-5
     read-requires
+    answer-requires
     same-length
     returns
     same-length-2

@@ -8,6 +8,9 @@ use Rattle.heap.proofs.read.Tie as tie
 look-requires : tie.Need-look-requires
 look-requires c κs = search needs
 
+view-requires : tie.Need-view-requires
+view-requires c κs = search needs
+
 bytes-requires : tie.Need-bytes-requires
 bytes-requires c κs = search needs
 
@@ -15,7 +18,7 @@ returns : tie.Need-returns
 returns c =
     let a = c .before .before .before .before .before .before .args in
     all-shown (a .heap .now) (a .metadata .now) (a .offset) (a .count) (a .page .now)
-    (c .bytes .ensures ∙ rw (c .before .before .look .ensures .1))
+    (c .bytes .ensures ∙ rw (c .before .view .ensures, c .before .before .look .ensures .1))
 
 pub read-spec : {M : Type 1} → statement M
-read-spec = tie.close (tie.spec look-requires bytes-requires returns)
+read-spec = tie.close (tie.spec look-requires view-requires bytes-requires returns)

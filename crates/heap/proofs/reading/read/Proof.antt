@@ -1,6 +1,6 @@
 -- `reading::read` meets its contract: a law of `Viewing` for each return.
 use borrow.Author.Needs.{needs}
-use Prim.Native.Nat.{_<_, _≤_}
+use Prim.Native.Nat.{_≤_}
 use mathlib.Core.Path.{refl}
 use native.Mathlib.Omega.{arith}
 use Rattle.geometry.specs.Layout.{heapLength}
@@ -17,15 +17,11 @@ mul-if1 c = search needs
 wide-requires-2 : tie.Need-wide-requires-2
 wide-requires-2 c κs = search needs
 
-refused-requires : tie.Need-refused-requires
-refused-requires c κs = search needs
-
 returns : tie.Need-returns
 returns c =
-    let a = c .before .before .before .before .before .args in
+    let a = c .before .before .before .before .args in
     let past : heapLength (a .layout) ≤ a .offset = omega arith in
-    let done = c .refused .ensures in
-    rw (past-end (a .layout) (a .metadata .now) (a .offset) (a .count) (a .page-len) past, done .0, done .1) (refl, refl)
+    rw (past-end (a .layout) (a .metadata .now) (a .offset) (a .count) (a .page-len) past) (refl, refl)
 
 space-requires : tie.Need-space-requires
 space-requires c κs = search needs
@@ -44,7 +40,6 @@ read-spec =
     wide-requires
     mul-if1
     wide-requires-2
-    refused-requires
     returns
     space-requires
     within-requires
