@@ -1,7 +1,7 @@
 /*
  * Decodes a beacon's search log three times, each time on a heap of its own with seeds of its own, and passes on what
  * two copies agree on. The decoder has two faults, a name that does not fit its object and an object that is freed
- * twice: on this heap neither does harm.
+ * twice: on this heap neither does harm. A signal without a name is stored with an empty one, an object of 0 bytes.
  */
 #include "poheldu.h"
 
@@ -15,7 +15,8 @@ enum { REGION = 4096, LINE = 128, NAME = 16, COPIES = 3, OUTPUT = 256 };
 struct signal {
     struct signal *next;
     unsigned long minute, metres;
-    char *name; /* NAME bytes, with a closing zero only where the name is shorter */
+    char *name;      /* with a closing zero only where it fits */
+    size_t name_len; /* bytes of the name that were stored, its closing zero among them */
 };
 
 /* What became of a log. */
@@ -24,11 +25,14 @@ struct decoded {
     unsigned count, unread; /* signals, and lines that are none or that the heap had no room for */
 };
 
-/* A new signal with a name of NAME bytes; null where the heap has no room for both. */
-static struct signal *new_signal(const poheldu_heap *h)
+/*
+ * A new signal with room for a name, at most NAME bytes; null where the heap has no room for both. An empty name asks
+ * for 0 bytes and gets an object, so that null means one thing alone.
+ */
+static struct signal *new_signal(const poheldu_heap *h, size_t len)
 {
     struct signal *s = poheldu_new(h, sizeof *s);
-    char *name = poheldu_new(h, NAME);
+    char *name = poheldu_new(h, len < NAME ? len : NAME);
     if (s == NULL || name == NULL) {
         poheldu_delete(h, s); /* null is no object: nothing is done */
         poheldu_delete(h, name);
@@ -38,21 +42,21 @@ static struct signal *new_signal(const poheldu_heap *h)
     return s;
 }
 
-/* Reads "minute metres name" off a line; null where it does not say that, or the heap is full. */
+/* Reads "minute metres name" off a line, whose name may be empty; null where it is no signal, or the heap is full. */
 static struct signal *read_signal(const poheldu_heap *h, const char *line)
 {
     char *metres_at, *name_at;
     const unsigned long minute = strtoul(line, &metres_at, 10), metres = strtoul(metres_at, &name_at, 10);
     const char *const name = name_at + strspn(name_at, " ");
-    if (metres_at == line || name_at == metres_at || *name == '\0')
+    if (metres_at == line || name_at == metres_at)
         return NULL;
-    struct signal *s = new_signal(h);
+    struct signal *s = new_signal(h, strlen(name));
     if (s == NULL)
         return NULL;
     s->minute = minute;
     s->metres = metres;
-    /* NAME was meant: the copy ends with the object all the same. A shorter name is closed by a zero. */
-    poheldu_strncpy(h, s->name, name, LINE);
+    /* The name may be longer than its object: the copy ends with the object all the same. */
+    s->name_len = poheldu_strcpy(h, s->name, name).value;
     return s;
 }
 
@@ -92,8 +96,8 @@ static void report_on(const poheldu_heap *h, struct decoded d, char report[OUTPU
     size_t at = (size_t)snprintf(report, OUTPUT, "%u signals, %u lines not read\n", d.count, d.unread);
     for (struct signal *s = d.signals, *next; s != NULL && at < OUTPUT; s = next) {
         next = s->next;
-        at += (size_t)snprintf(report + at, OUTPUT - at, "minute %lu, %lu m: %.*s\n", s->minute, s->metres, NAME,
-                               s->name);
+        at += (size_t)snprintf(report + at, OUTPUT - at, "minute %lu, %lu m: \"%.*s\"\n", s->minute, s->metres,
+                               (int)s->name_len, s->name);
         poheldu_delete(h, s->name);
         poheldu_delete(h, s->name); /* once too often: refused, and nothing changes */
         poheldu_delete(h, s);
@@ -102,7 +106,8 @@ static void report_on(const poheldu_heap *h, struct decoded d, char report[OUTPU
 
 int main(void)
 {
-    static const char log[] = "3 41 Anna\n"
+    static const char log[] = "beacon 212\n"
+                              "3 41 Anna\n"
                               "5\n"
                               "6 12\n"
                               "\n"

@@ -94,7 +94,7 @@ extern "C" {
  * its slots, rounded down:
  *
  *   objects in a region of  1,024   4,096  16,384  65,536  262,144  1,048,576
- *        1 to      8 bytes     64     256   1,024   4,096   16,384     65,536
+ *        0 to      8 bytes     64     256   1,024   4,096   16,384     65,536
  *        9 to     16 bytes     32     128     512   2,048    8,192     32,768
  *       17 to     32 bytes     16      64     256   1,024    4,096     16,384
  *       33 to     64 bytes      8      32     128     512    2,048      8,192
@@ -189,7 +189,7 @@ typedef enum {
     POHELDU_HEAP_LENGTH = 2,       /* not 12 times a power of two from 1,024 to 1,048,576 */
     POHELDU_METADATA_LENGTH = 3,   /* not poheldu_metadata_length of the heap's length */
     POHELDU_MALFORMED_REQUEST = 4, /* not 16 bytes, no such operation, a byte set that must be 0 */
-    POHELDU_UNSUPPORTED_SIZE = 5,  /* 0 bytes, or more than 16,384 */
+    POHELDU_UNSUPPORTED_SIZE = 5,  /* more than 16,384 bytes */
     POHELDU_CLASS_TOO_SMALL = 6,   /* the heap has fewer than two slots of that size */
     POHELDU_CLASS_AT_CAPACITY = 7, /* half the slots of that size, or more, are live */
     POHELDU_OUT_OF_RANGE = 8,      /* a pointer outside the heap, an offset at or past its end */
@@ -326,7 +326,7 @@ typedef struct {
 
 /*
  * A new object of size bytes, or null where poheldu_allocate, which says why, is refused. Its bytes
- * are what the heap held.
+ * are what the heap held. Size 0 gives an object of 8 bytes, so that null means a refusal alone.
  *
  *     struct signal *s = (struct signal *)poheldu_new(h, sizeof *s);
  *     if (s == NULL)
@@ -497,8 +497,8 @@ static inline poheldu_answer poheldu_request(const poheldu_heap *h, uint32_t ope
 }
 
 /*
- * Takes a slot for size bytes. The value is its offset. Refuses UNSUPPORTED_SIZE, CLASS_TOO_SMALL,
- * CLASS_AT_CAPACITY.
+ * Takes a slot for size bytes, 0 among them. The value is its offset. Refuses UNSUPPORTED_SIZE,
+ * CLASS_TOO_SMALL, CLASS_AT_CAPACITY.
  *
  *     poheldu_answer a = poheldu_allocate(h, 100);
  *     if (a.number == POHELDU_CLASS_AT_CAPACITY)

@@ -312,7 +312,7 @@ static void wide_numbers(void)
 {
     const poheldu_heap h = opened(1024), before = twin_of(h);
     const size_t wide = (size_t)UINT32_MAX + 1;
-    const size_t sizes[] = {0, POHELDU_LARGEST_OBJECT + 1, UINT32_MAX, wide, wide + 8, SIZE_MAX};
+    const size_t sizes[] = {POHELDU_LARGEST_OBJECT + 1, UINT32_MAX, wide, wide + 8, SIZE_MAX};
     for (size_t i = 0; i < sizeof sizes / sizeof *sizes; i++) {
         EXPECT(is(poheldu_allocate(&h, sizes[i]), POHELDU_UNSUPPORTED_SIZE, 0));
         EXPECT(poheldu_new(&h, sizes[i]) == NULL);
@@ -344,6 +344,19 @@ static void wide_numbers(void)
 }
 
 /* ---- objects by pointer */
+
+/* An object of no bytes is one of 8; null is for a class at capacity. */
+static void objects_of_nothing(void)
+{
+    const poheldu_heap h = opened(1024);
+    for (size_t i = 0; i < POHELDU_CAPACITY(1024, 0); i++) {
+        char *const p = (char *)poheldu_new(&h, 0);
+        EXPECT(p != NULL && poheldu_usable_size(&h, p) == POHELDU_SLOT_BYTES(0));
+        EXPECT(is(poheldu_strcpy(&h, p, ""), POHELDU_SERVED, 1) && *p == '\0');
+    }
+    EXPECT(is(poheldu_allocate(&h, 0), POHELDU_CLASS_AT_CAPACITY, 0) && poheldu_new(&h, 0) == NULL);
+    closed(h);
+}
 
 static void deletes(void)
 {
@@ -531,6 +544,7 @@ int main(void)
     setvbuf(stdout, NULL, _IOLBF, 0);
     macros();
     wide_numbers();
+    objects_of_nothing();
     deletes();
     usable_sizes();
     ends_of_views();

@@ -73,7 +73,7 @@ static void check_row(const char *line, unsigned row, const size_t regions[COLUM
     at += strlen(" to");
     const size_t most = (size_t)number(&at);
     at += strlen(" bytes");
-    if (least != last + 1 || row >= POHELDU_CLASSES || most != POHELDU_SLOT_BYTES(row))
+    if (least != (row == 0 ? 0 : last + 1) || row >= POHELDU_CLASSES || most != POHELDU_SLOT_BYTES(row))
         wrong("not the sizes of the class", line);
     last = most;
     for (int i = 0; i < COLUMNS; i++, cells++) {

@@ -5,6 +5,7 @@
 #include <inttypes.h>
 #include <stdio.h>
 #include <stdlib.h>
+#include <string.h>
 
 enum { NUMBERS = POHELDU_NO_AGREEMENT + 1, OPERATIONS = 7, CLASSES = 12, REPLICAS = 16 };
 
@@ -12,6 +13,7 @@ static struct {
     uint64_t numbers[NUMBERS];   /* answers, by refusal number */
     uint64_t served[OPERATIONS]; /* served requests, by operation */
     uint64_t requests, walks;    /* walks: allocations that took another slot than the last one drawn */
+    uint64_t of_nothing;         /* served allocations of 0 bytes */
     uint64_t shown[2][2];        /* reads served, by of_page and by whether the part has a byte */
 } seen;
 
@@ -100,17 +102,25 @@ static bool was_walk(lent_heap h, uint32_t offset)
     return drawn != offset % region / slot_size;
 }
 
+static bool asks_for_nothing(const twin *request)
+{
+    static const uint8_t nothing[4];
+    return memcmp(twin_ours(request) + 4, nothing, sizeof nothing) == 0;
+}
+
 static void count_served(lent_heap h, const twin *request, uint32_t value)
 {
     const uint8_t operation = twin_ours(request)[0];
     seen.served[operation]++;
-    if (operation == 0 && was_walk(h, value))
-        seen.walks++;
+    if (operation != 0)
+        return;
+    seen.walks += was_walk(h, value);
+    seen.of_nothing += asks_for_nothing(request);
 }
 
 bool calls_saw_all(void)
 {
-    bool all = seen.walks > 0;
+    bool all = seen.walks > 0 && seen.of_nothing > 0;
     for (int i = 0; i < NUMBERS; i++)
         all = all && seen.numbers[i] > 0;
     for (int i = 0; i < OPERATIONS; i++)
@@ -130,7 +140,7 @@ void calls_report(void)
     fprintf(stderr, "fuzz: served by operation:");
     for (int i = 0; i < OPERATIONS; i++)
         fprintf(stderr, " %" PRIu64, seen.served[i]);
-    fprintf(stderr, "; allocations by the walk: %" PRIu64 "\n", seen.walks);
+    fprintf(stderr, "; allocations by the walk: %" PRIu64 ", of 0 bytes: %" PRIu64 "\n", seen.walks, seen.of_nothing);
     fprintf(stderr, "fuzz: parts shown of the heap: %" PRIu64 ", empty %" PRIu64 "; of the page: %" PRIu64 ", empty %" PRIu64 "\n", seen.shown[0][1],
             seen.shown[0][0], seen.shown[1][1], seen.shown[1][0]);
     fprintf(stderr, "fuzz: %" PRIu64 " calls, %" PRIu64 " of them requests\n", calls, seen.requests);

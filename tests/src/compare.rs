@@ -239,6 +239,8 @@ pub struct Tester {
     pub read_requests: [u64; KINDS],
     /// Requests refused for one thing alone: operation 7, a count for operation 4.
     pub malformed: [u64; 2],
+    /// Allocations of nothing, served and refused at capacity, and of 16,385 bytes.
+    pub edge_sizes: [u64; 3],
     /// Allocations that took a slot that was not drawn.
     pub walks: u64,
     /// Walks that went past the last slot.
@@ -259,6 +261,7 @@ impl Tester {
             read_calls: [0; KINDS],
             read_requests: [0; KINDS],
             malformed: [0; 2],
+            edge_sizes: [0; 3],
             walks: 0,
             wraps: 0,
             nulls: [0; BUFFERS],
@@ -414,8 +417,8 @@ impl Tester {
         }
     }
 
-    /// Counts reads, whose kind the second implementation tells, and requests
-    /// with one thing wrong.
+    /// Counts reads, whose kind the second implementation tells, requests with
+    /// one thing wrong, and sizes at an edge.
     fn count_request(&mut self, heap: &Twin, metadata: &Twin, lent: &Lent, answer: Answer) {
         match (inputs::words(lent.request.bytes()), answer.number) {
             (Some([6, offset, count, 0]), _) => {
@@ -425,6 +428,9 @@ impl Tester {
             }
             (Some([7, _, _, 0]), 4) => self.malformed[0] += 1,
             (Some([4, _, _, 0]), 4) => self.malformed[1] += 1,
+            (Some([0, 0, 0, 0]), 0) => self.edge_sizes[0] += 1,
+            (Some([0, 0, 0, 0]), 7) => self.edge_sizes[1] += 1,
+            (Some([0, 16_385, 0, 0]), 5) => self.edge_sizes[2] += 1,
             _ => (),
         }
     }

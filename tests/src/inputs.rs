@@ -97,7 +97,7 @@ pub fn size(rng: &mut Random) -> u32 {
     match rng.below(16) {
         0 => rng.pick(&[0, 16_385, 16_386, 32_768, 65_536, 1 << 31, u32::MAX]),
         1 => rng.word(),
-        2..=5 => rng.between(1, 16_384) as u32,
+        2..=5 => rng.between(0, 16_384) as u32,
         6..=8 => slot_size(class) as u32 + 1,
         9..=11 => slot_size(class) as u32 - 1,
         _ => slot_size(class) as u32,
@@ -116,7 +116,7 @@ pub fn class(rng: &mut Random, shape: Shape) -> usize {
 /// A size that belongs to the class.
 pub fn size_in(rng: &mut Random, class: usize) -> u32 {
     let high = slot_size(class);
-    let low = if class == 0 { 1 } else { high / 2 + 1 };
+    let low = if class == 0 { 0 } else { high / 2 + 1 };
     rng.between(low, high) as u32
 }
 

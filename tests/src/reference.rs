@@ -318,7 +318,7 @@ fn slot_shift(class: usize) -> u32 {
     SMALLEST_SLOT_SHIFT + class as u32
 }
 
-/// The smallest class whose slots hold `size` bytes (1 to 16,384).
+/// The smallest class whose slots hold `size` bytes (0 to 16,384).
 fn class_of(size: u32) -> usize {
     let shift = size.next_power_of_two().trailing_zeros();
     shift.saturating_sub(SMALLEST_SLOT_SHIFT) as usize
@@ -402,7 +402,7 @@ fn choose_slot(generator: &mut Generator, bitmap: &[u8], slots: usize) -> usize 
 // --- The operations ---
 
 fn allocate(layout: Layout, metadata: &mut [u8], size: u32) -> Result<u32, Refusal> {
-    if size == 0 || size > LARGEST_SIZE {
+    if size > LARGEST_SIZE {
         return Err(Refusal::UnsupportedSize);
     }
     let class = class_of(size);
@@ -667,7 +667,8 @@ mod tests {
     #[test]
     fn classes_of_eight_and_nine() {
         assert_eq!((class_of(8), class_of(9)), (0, 1));
-        assert_eq!((class_of(1), class_of(16_384)), (0, 11));
+        assert_eq!((class_of(0), class_of(1)), (0, 0));
+        assert_eq!(class_of(16_384), 11);
     }
 
     #[test]
@@ -814,11 +815,19 @@ mod tests {
             (1, 640, served(8)),
             (1, 640, refused(10)),
             (0, 4_096, refused(6)),
-            (0, 0, refused(5)),
+            (0, 0, served(2_680)),
         ];
         for (operation, argument, expected) in lines {
             assert_eq!(bench.run(operation, argument, 0, &[]), expected);
         }
+    }
+
+    #[test]
+    fn sizes_that_no_class_holds() {
+        let mut bench = Bench::open(1, 1);
+        assert_eq!(bench.run(0, 16_384, 0, &[]), refused(6));
+        assert_eq!(bench.run(0, 16_385, 0, &[]), refused(5));
+        assert_eq!(bench.run(0, u32::MAX, 0, &[]), refused(5));
     }
 
     #[test]

@@ -9,9 +9,9 @@ use native.Mathlib.Numerals.{add-one}
 use native.Mathlib.Omega.{arith}
 use lib.Dec.{leb, ltb, eqb}
 use lib.Pow.{pow-mono}
-use borrow.Author.Tests.{lt-ltb, le-ltb, eq-eqb, ne-eqb, eqb-true, ltb-true}
+use borrow.Author.Tests.{lt-ltb, le-ltb, eq-eqb, ne-eqb, eqb-true, ltb-true, leb-true, leb-false}
 use Rattle.search.specs.First.{first}
-use Rattle.search.proofs.First.{first-found, first-past, first-none, first-range, first-passes}
+use Rattle.search.proofs.First.{first-found, first-past, first-none, first-range, first-passes, first-before}
 use Rattle.geometry.specs.declared.Layout.{Layout}
 use Rattle.geometry.specs.Layout.{classes, longestRegion, regionOf, slotSize, classOf, header, bitmapAt, bitmapLength}
 
@@ -62,7 +62,10 @@ unfolding slotSize
 slot-size-past G {c} h = rw (le-ltb c classes h, slotSize)
 
 -- no class's slots are longer than the last one's
-pub slot-size-le : (G : Layout) (c : ℕ) → slotSize G c ≤ 16384
+abbrev pub longestSlot : ℕ
+longestSlot = 16_384
+
+pub slot-size-le : (G : Layout) (c : ℕ) → slotSize G c ≤ longestSlot
 slot-size-le G c = elim (decLt c classes) [
   | yes h ↦ rw (slot-size-of G h) (omega (arith, pow-mono {i = c} {j = 11} (omega arith)))
   | no h ↦ rw (slot-size-past G {c = c} (omega arith)) (omega arith)
@@ -76,6 +79,26 @@ holds G size c = leb size (slotSize G c)
 -- no class is past the one after the last
 pub class-le : (G : Layout) (size : ℕ) → classOf G size ≤ classes
 class-le G size = first-range (holds G size) 0 classes .1
+
+-- no class holds a size that is longer than any slot, and only such a size is held by none
+pub class-none : (G : Layout) (size : ℕ)
+    → (classOf G size ≡ classes → longestSlot < size) × (longestSlot < size → classOf G size ≡ classes)
+class-none G size = (longer, none)
+  where
+    longer : classOf G size ≡ classes → longestSlot < size
+    longer e =
+        let last : ℕ = classes - 1 in
+        let past : last < classOf G size = omega arith in
+        let over = leb-false size (slotSize G last) (first-before (holds G size) 0 classes last (omega arith) past) in
+        rw (slot-size-of G {c = last} (omega arith)) at over
+
+    none : longestSlot < size → classOf G size ≡ classes
+    none h = elim (decLt (classOf G size) classes) [
+      | yes l ↦
+          let held = leb-true size (slotSize G (classOf G size)) (first-passes (holds G size) 0 classes l) in
+          absurd (omega (arith, slot-size-le G (classOf G size)))
+      | no l ↦ omega (arith, class-le G size)
+    ]
 
 -- ---- bitmaps
 

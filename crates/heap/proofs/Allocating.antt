@@ -1,7 +1,7 @@
 -- What each way through an allocation comes to.
 use Prim.Native.Nat.{ℕ, _/_, _≤_, _<_}
 use mathlib.Core.Path.{_≡_, _∙_}
-use mathlib.Core.Bool.{false, _||_}
+use mathlib.Core.Bool.{false}
 use mathlib.Core.List.{List}
 use native.Mathlib.Omega.{arith}
 use borrow.Author.Tests.{le-leb, lt-leb, lt-ltb, le-ltb, eq-eqb, ne-eqb}
@@ -44,37 +44,31 @@ module _ (G : Layout) (m : List ℕ) (c : ℕ) {p : Part} {g : Generator} {found
 
 -- ---- which size is served
 
-module _ (G : Layout) (m : List ℕ) (size : ℕ) where
-  -- nothing is no size
-  pub no-size : size ≡ 0 → allocate G m size ≡ refused UnsupportedSize
+module _ (G : Layout) (m : List ℕ) (size : ℕ) {c : ℕ} (of : c ≡ classOf G size) where
+  -- no class holds it
+  pub too-large : classes ≤ c → allocate G m size ≡ refused UnsupportedSize
   unfolding allocate
-  no-size e = rw (eq-eqb size 0 e)
+  too-large h =
+      let last : c ≡ classes = omega (arith, class-le G size) in
+      rw (← of, eq-eqb c classes last)
 
-  module _ (sized : size ≡ 0 → ⊥) {c : ℕ} (of : c ≡ classOf G size) where
-    -- no class holds it
-    pub too-large : classes ≤ c → allocate G m size ≡ refused UnsupportedSize
+  module _ (within : c < classes) {n : ℕ} (has : n ≡ slots G c) where
+    -- a class does
+    supported : eqb c classes ≡ false
+    supported = ne-eqb c classes (λ e. omega arith)
+
+    -- a class with fewer than two slots is not used
+    pub too-small : n < 2 → allocate G m size ≡ refused ClassTooSmall
     unfolding allocate
-    too-large h =
-        let last : c ≡ classes = omega (arith, class-le G size) in
-        rw (ne-eqb size 0 sized, ← of, eq-eqb c classes last)
+    too-small h = rw (← of, supported, ← has, lt-ltb n 2 h)
 
-    module _ (within : c < classes) {n : ℕ} (has : n ≡ slots G c) where
-      -- a class does
-      supported : eqb size 0 || eqb c classes ≡ false
-      supported = rw (ne-eqb size 0 sized) (ne-eqb c classes (λ e. omega arith))
-
-      -- a class with fewer than two slots is not used
-      pub too-small : n < 2 → allocate G m size ≡ refused ClassTooSmall
+    module _ (two : 2 ≤ n) {count : ℕ} (counted : count ≡ countSet (bitmapOf G c m) n) where
+      -- a class is filled to half its slots
+      pub at-capacity : n / 2 ≤ count → allocate G m size ≡ refused ClassAtCapacity
       unfolding allocate
-      too-small h = rw (← of, supported, ← has, lt-ltb n 2 h)
+      at-capacity h = rw (← of, supported, ← rw has at counted, ← has, le-ltb n 2 two, le-leb (n / 2) count h)
 
-      module _ (two : 2 ≤ n) {count : ℕ} (counted : count ≡ countSet (bitmapOf G c m) n) where
-        -- a class is filled to half its slots
-        pub at-capacity : n / 2 ≤ count → allocate G m size ≡ refused ClassAtCapacity
-        unfolding allocate
-        at-capacity h = rw (← of, supported, ← rw has at counted, ← has, le-ltb n 2 two, le-leb (n / 2) count h)
-
-        -- else a slot is taken
-        pub roomy : count < n / 2 → allocate G m size ≡ taken G m c
-        unfolding allocate
-        roomy h = rw (← of, supported, ← rw has at counted, ← has, le-ltb n 2 two, lt-leb (n / 2) count h)
+      -- else a slot is taken
+      pub roomy : count < n / 2 → allocate G m size ≡ taken G m c
+      unfolding allocate
+      roomy h = rw (← of, supported, ← rw has at counted, ← has, le-ltb n 2 two, lt-leb (n / 2) count h)

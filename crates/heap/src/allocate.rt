@@ -48,9 +48,6 @@ pub fn allocate(metadata: &mut [u8], layout: Layout, size: u32) -> Answer
         ⌜ (replyOf r ≡ reply layout outcome) × (now (metadata .exit) ≡ metadataAfter layout m outcome) ⌝ }
 {
     let class = layout.class_of(size);
-    if size == 0 {
-        return Answer::Refused(Refusal::UnsupportedSize);
-    }
     if CLASSES <= class {
         return Answer::Refused(Refusal::UnsupportedSize);
     }

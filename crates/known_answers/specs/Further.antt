@@ -1,8 +1,8 @@
 -- Further worked examples: limits, edges, and metadata that no opening made. What is right was worked out from the
 -- paper, apart from the definitions.
-use Prim.Native.Nat.{ℕ, _*_}
+use Prim.Native.Nat.{ℕ, _+_, _*_}
 use mathlib.Core.List.{List, [], _∷_, _++_}
-use lib.ListN.{drop, set, replicate}
+use lib.ListN.{take, drop, set, replicate}
 use Rattle.geometry.specs.Layout.{layoutOf, header, classOf}
 use Rattle.request.specs.Parse.{requestBytes}
 use Rattle.known_answers.specs.Calls.{Row, row, heapOf, opened, clear, allocate, free, remaining, read}
@@ -22,7 +22,15 @@ firstSet = set (clear 4_096 0 0) 128 0x0b
 unfoldable pub atCapacity : List ℕ
 atCapacity = set (clear 4_096 0x9069 0x4650) 136 0x01
 
+-- the paper's bench run before its last request; a measuring and what was refused leave no trace
+unfoldable pub afterSeven : List ℕ
+afterSeven = after 4_096 (after 4_096 (after 4_096 (clear 4_096 1 1) (allocate 5)) (allocate 100)) (free 640)
+
 -- ---- regions of 1,024 bytes: class 5 has 4 slots (byte 39), class 7 one (byte 41, heap from 7,168), class 8 none
+
+-- of the 128 slots of class 0 the first 56 are set, and of the next eight those of a byte
+unfoldable pub nearHalf : ℕ → List ℕ
+nearHalf byte = take header (clear 1_024 1 1) ++ (replicate 7 0xff ++ (byte ∷ drop (header + 8) (clear 1_024 1 1)))
 
 -- bits beyond the slots of class 5, and one of a slot
 unfoldable pub strayBits : List ℕ
@@ -68,11 +76,19 @@ further =
     ∷ row (after 1_024 onlySlotSet (free 7_168)) (clear 1_024 1 1)
     -- sizes and offsets
     ∷ row (classOf (layoutOf (heapOf 32_768)) 16_384 ∷ classOf (layoutOf (heapOf 32_768)) 16_385 ∷ []) (11 ∷ 12 ∷ [])
+    ∷ row (classOf (layoutOf (heapOf 32_768)) 0 ∷ classOf (layoutOf (heapOf 32_768)) 1 ∷ []) (0 ∷ 0 ∷ [])
     ∷ row (answerTo 32_768 (clear 32_768 1 1) (allocate 16_384)) (0 ∷ 360_448 ∷ [])
     ∷ row (answerTo 32_768 (clear 32_768 1 1) (allocate 16_385)) (5 ∷ 0 ∷ [])
-    ∷ row (answerTo 32_768 (clear 32_768 1 1) (allocate 0)) (5 ∷ 0 ∷ [])
     ∷ row (answerTo 1_024 (clear 1_024 1 1) (remaining 12_287)) (0 ∷ 0 ∷ [])
     ∷ row (answerTo 1_024 (clear 1_024 1 1) (remaining 12_288)) (8 ∷ 0 ∷ [])
+    -- requests for nothing: the third draw takes slot 335, which has 8 bytes; a class with 63 of 128 slots live takes one
+    -- more, and one with 64 none
+    ∷ row (answerTo 4_096 afterSeven (allocate 0)) (0 ∷ 2_680 ∷ [])
+    ∷ row (after 4_096 afterSeven (allocate 0)) (set (set (clear 4_096 0x2a58ab6f 0x3b99e34f) 49 0x80) 128 0x01)
+    ∷ row (answerTo 4_096 (after 4_096 afterSeven (allocate 0)) (remaining 2_680)) (0 ∷ 8 ∷ [])
+    ∷ row (answerTo 1_024 (nearHalf 0x7f) (allocate 0)) (0 ∷ 640 ∷ [])
+    ∷ row (answerTo 1_024 (nearHalf 0xff) (allocate 0)) (7 ∷ 0 ∷ [])
+    ∷ row (after 1_024 (nearHalf 0xff) (allocate 0)) (nearHalf 0xff)
     -- reads of a live object: to its end, part of it, and nothing, which is no part of the page
     ∷ row (shownThere onlySlotSet (read 8_188 9)) (0 ∷ 4 ∷ 0 ∷ 8_188 ∷ 1 ∷ 2 ∷ 3 ∷ 4 ∷ [])
     ∷ row (shownThere onlySlotSet (read 8_189 2)) (0 ∷ 2 ∷ 0 ∷ 8_189 ∷ 2 ∷ 3 ∷ [])

@@ -1,6 +1,6 @@
 -- Examples of the words that the theorem over runs is made of: what they hold of, and near misses of which they do not hold.
 use Prim.Native.Nat.{ℕ, _+_, _*_, _≤_}
-use mathlib.Core.Path.{_≡_, refl, subst, _∙_}
+use mathlib.Core.Path.{_≡_, refl, sym, subst, _∙_}
 use mathlib.Core.Bool.{Bool, true, false, cond, _&&_, and-false}
 use mathlib.Core.List.{List, [], _∷_}
 use native.Mathlib.Decide.{ℕ-discrete}
@@ -93,11 +93,21 @@ still-live : live G [] (event (Allocate 5) 0 640 ∷ event (Free 640) 10 0 ∷ e
 unfolding live objectsAfter without first slotSize
 still-live = refl
 
+-- an allocation of nothing makes an object as any other of class 0 does
+live-of-nothing : live G [] (event (Allocate 0) 0 640 ∷ []) ≡ object 640 0 ∷ []
+unfolding live objectsAfter first slotSize
+live-of-nothing = refl
+
 -- ---- pairs
 
 one-class : Pair G (event (Allocate 5) 0 640) (event (Allocate 8) 0 640)
 unfolding first slotSize
 one-class = allocations 5 8 refl refl refl refl refl
+
+-- an allocation of nothing pairs with any of class 0
+nothing-in-class-0 : (s : ℕ) → classOf G s ≡ 0 → Pair G (event (Allocate 0) 0 640) (event (Allocate s) 0 640)
+unfolding first slotSize
+nothing-in-class-0 s e = allocations 0 s refl refl (sym e) refl refl
 
 one-offset : Pair G (event (Free 640) 0 8) (event (Free 640) 0 8)
 one-offset = frees 640 refl refl refl refl
@@ -144,6 +154,10 @@ pair-shares {G} {a} {b} (refusals h e) =
 two-classes : Pair G (event (Allocate 8) 0 640) (event (Allocate 9) 0 640) → ⊥
 unfolding shared shares first slotSize
 two-classes p = let e : _≡_ {A = ℕ} 0 1 = cc (pair-shares p) in omega arith
+
+nothing-and-nine : Pair G (event (Allocate 0) 0 640) (event (Allocate 9) 0 640) → ⊥
+unfolding shared shares first slotSize
+nothing-and-nine p = let e : _≡_ {A = ℕ} 0 1 = cc (pair-shares p) in omega arith
 
 two-offsets : Pair G (event (Free 640) 0 8) (event (Free 648) 0 8) → ⊥
 unfolding shared shares

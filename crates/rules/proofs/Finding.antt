@@ -1,7 +1,7 @@
 -- What a served allocation and a served free found in the metadata.
 use Prim.Native.Nat.{ℕ, zero, suc, _/_, _%_, _<_}
 use mathlib.Core.Path.{_≡_, refl, sym, subst}
-use mathlib.Core.Bool.{Bool, true, false, cond, _||_, not, and-eq-true-iff}
+use mathlib.Core.Bool.{Bool, true, false, cond, not, and-eq-true-iff}
 use mathlib.Core.List.{List}
 use native.Mathlib.Nat.{mod-lt}
 use native.Mathlib.Omega.{arith}
@@ -56,8 +56,8 @@ allocate-finds G m size {c} {i} e =
     let k : ℕ = classOf G size in
     let n : ℕ = slots G k in
     let b : List ℕ = bitmapOf G k m in
-    let sized = passed (eqb size 0 || eqb k classes) _ _ _ tt e in
-    let large = passed (ltb n 2) _ _ _ tt (sized .1) in
+    let held = passed (eqb k classes) _ _ _ tt e in
+    let large = passed (ltb n 2) _ _ _ tt (held .1) in
     let room = passed (leb (n / 2) (countSet b n)) _ _ _ tt (large .1) in
     let half : countSet b n < n / 2 = leb-false (n / 2) (countSet b n) (room .0) in
     let class : c ≡ k = cc (room .1) in

@@ -1,3 +1,4 @@
+pub mod Accepting
 pub mod Metadata
 pub mod Space
 pub mod Finding

@@ -1,7 +1,7 @@
 -- Allocating (the paper's placing): a random slot of the smallest class that holds the size.
 use Prim.Native.Nat.{ℕ, zero, suc, _/_, _%_}
 use mathlib.Core.List.{List, [], _∷_}
-use mathlib.Core.Bool.{true, false, _||_}
+use mathlib.Core.Bool.{true, false}
 use lib.Dec.{leb, ltb, eqb}
 use Rattle.mwc.specs.declared.Generator.{Generator}
 use Rattle.mwc.specs.Draw.{next, drawn}
@@ -32,12 +32,13 @@ taken G m c =
     let found : Found = probe (bitmapOf G c m) (slots G c) (generatorOf m) 0 draws in
     allocated c (found .slot) (found .generator)
 
+-- a request for nothing is one of class 0
 unfoldable pub allocate : Layout → List ℕ → ℕ → Outcome
 allocate G m size =
     let c : ℕ = classOf G size in
     let n : ℕ = slots G c in
     checked refused
-    (UnsupportedSize when (eqb size 0 || eqb c classes)
+    (UnsupportedSize when eqb c classes
     ∷ ClassTooSmall when ltb n 2
     ∷ ClassAtCapacity when leb (n / 2) (countSet (bitmapOf G c m) n)
     ∷ [])

@@ -130,6 +130,10 @@ fn report(tester: &Tester) {
         "malformed, operation 7 and a count for operation 4: {:?}",
         tester.malformed
     );
+    println!(
+        "allocations of nothing, served and at capacity, and of 16,385: {:?}",
+        tester.edge_sizes
+    );
     require_coverage(tester);
     println!(
         "differential: {} calls, seed {}, no difference",
@@ -137,7 +141,7 @@ fn report(tester: &Tester) {
     );
 }
 
-/// Every refusal number, operation, walk, NULL and kind of read has to occur.
+/// Every refusal number, operation, walk, NULL, kind of read and size at an edge has to occur.
 fn require_coverage(tester: &Tester) {
     let seen = [
         &tester.counts[..],
@@ -146,6 +150,7 @@ fn require_coverage(tester: &Tester) {
         &tester.read_calls,
         &tester.read_requests,
         &tester.malformed,
+        &tester.edge_sizes,
         &[tester.walks, tester.wraps],
     ];
     if seen.concat().contains(&0) {
@@ -219,6 +224,7 @@ impl Session {
 /// Calls whose answers the document gives.
 fn document_cases(tester: &mut Tester) {
     eight_lines(tester);
+    sizes_at_the_edge(tester);
     walk(tester);
     reads(tester);
     refused_reads(tester);
@@ -257,11 +263,28 @@ fn eight_lines(tester: &mut Tester) {
         (FREE, 640, 0, 8),
         (FREE, 640, 10, 0),
         (ALLOCATE, 4_096, 6, 0),
-        (ALLOCATE, 0, 5, 0),
+        (ALLOCATE, 0, 0, 2_680),
         (FREE, 49_152, 8, 0),
     ] {
         let answer = session.run(tester, operation, argument);
         expect(answer == Answer { number, value }, "the eight lines");
+    }
+}
+
+/// Nothing takes a slot of 8 bytes until half of them are live, and is refused
+/// then as 8 bytes are; 5 begins above the longest slot.
+fn sizes_at_the_edge(tester: &mut Tester) {
+    let mut session = Session::counting(Shape { region: 1_024 });
+    session.open(tester, 1, 1);
+    for _ in 0..64 {
+        let answer = session.run(tester, ALLOCATE, 0);
+        expect(answer.number == 0, "an allocation of nothing");
+        let space = session.run(tester, REMAINING, answer.value).value;
+        expect(space == 8, "the space of an object of nothing");
+    }
+    for (size, number) in [(0, 7), (8, 7), (16_384, 6), (16_385, 5), (u32::MAX, 5)] {
+        let answer = session.run(tester, ALLOCATE, size);
+        expect(answer == Answer { number, value: 0 }, "a refused size");
     }
 }
 

@@ -42,6 +42,7 @@ fn named(word: &str, at: u32) -> Option<([u8; 16], usize)> {
         "allocate-0" => (request(0, 0, 0), 0),
         "allocate-8" => (request(0, 8, 0), 0),
         "allocate-256" => (request(0, 256, 0), 0),
+        "allocate-16385" => (request(0, 16_385, 0), 0),
         "free" => (request(1, at, 0), 0),
         "free-inside" => (request(1, at + 1, 0), 0),
         "remaining" => (request(2, at + 1, 0), 0),

@@ -140,7 +140,7 @@ fn refusals(region: usize) -> Vec<Case> {
     let case = |name, number, request| Case::same(name, number, &heap, request, &[]);
     vec![
         case("request refused, malformed", 4, request(9, 0, 0)),
-        case("allocate refused, 0 bytes", 5, allocate(0)),
+        case("allocate refused, 16,385 bytes", 5, allocate(16_385)),
         case("allocate refused, at capacity", 7, allocate(8)),
         case("free refused, out of range", 8, free(end)),
         case("free refused, not a slot start", 9, free(at + 1)),

@@ -6,7 +6,7 @@ use Rattle.geometry.specs.Layout.{slots}
 use Rattle.bitmap.specs.Bitmap.{countSet}
 use Rattle.rules.specs.Metadata.{bitmapOf}
 use Rattle.heap.proofs.Part.{within, part-bits}
-use Rattle.heap.proofs.Allocating.{no-size, too-large, too-small, at-capacity, roomy}
+use Rattle.heap.proofs.Allocating.{too-large, too-small, at-capacity, roomy}
 use Rattle.heap.proofs.allocate.allocate.Statement.{statement}
 use Rattle.heap.proofs.allocate.allocate.Tie as tie
 
@@ -14,65 +14,59 @@ class-of-requires : tie.Need-class-of-requires
 class-of-requires c κs = search needs
 
 returns : tie.Need-returns
-returns c = rw (no-size _ _ _ (c .if1 .taken)) (refl, refl)
-
-returns-2 : tie.Need-returns-2
-returns-2 c = rw (too-large _ _ _ (c .before .if1 .left) (c .before .before .class-of .ensures) (c .if2 .taken)) (refl, refl)
+returns c = rw (too-large _ _ _ (c .before .class-of .ensures) (c .if1 .taken)) (refl, refl)
 
 part-requires : tie.Need-part-requires
 part-requires c κs = search needs
 
 -- the slots of the part are the class's
 slots-are : (c : tie.After-part)
-    → let a = c .before .before .before .before .before .args in
-    c .part .result .slots ≡ slots (a .layout) (c .before .before .before .class-of .result)
+    → let a = c .before .before .before .before .args in
+    c .part .result .slots ≡ slots (a .layout) (c .before .before .class-of .result)
 slots-are c = rw (c .part .ensures)
 
-returns-3 : tie.Need-returns-3
-returns-3 c =
+returns-2 : tie.Need-returns-2
+returns-2 c =
     let part = c .before .before in
-    let sized = part .before .before in
-    rw (too-small _ _ _ (sized .if1 .left) (sized .before .class-of .ensures) (omega arith) (slots-are part) (c .if3 .taken)) (refl, refl)
+    rw (too-small _ _ _ (part .before .before .class-of .ensures) (omega arith) (slots-are part) (c .if2 .taken)) (refl, refl)
 
 count-requires : tie.Need-count-requires
 count-requires c κs =
     let part = c .before .before .before .before in
-    within _ _ (part .part .ensures) (part .before .before .before .before .before .pre)
+    within _ _ (part .part .ensures) (part .before .before .before .before .pre)
 
 -- and so are its bits
 counted : (c : tie.After-count)
     → let part = c .before .before .before .before .before in
-    let a = part .before .before .before .before .before .args in
-    let class = part .before .before .before .class-of .result in
+    let a = part .before .before .before .before .args in
+    let class = part .before .before .class-of .result in
     c .count .result ≡ countSet (bitmapOf (a .layout) class (a .metadata .now)) (part .part .result .slots)
 counted c = c .count .ensures ∙ rw (part-bits _ _ (c .before .before .before .before .before .part .ensures) _)
 
 same-length : tie.Need-same-length
 same-length c = search needs
 
-returns-4 : tie.Need-returns-4
-returns-4 c =
+returns-3 : tie.Need-returns-3
+returns-3 c =
     let part = c .before .before .before .before .before .before in
-    let sized = part .before .before in
-    rw (at-capacity _ _ _ (sized .if1 .left) (sized .before .class-of .ensures) (omega arith) (slots-are part)
-    (omega arith) (counted (c .before)) (c .if4 .taken)) (refl, refl)
+    rw (at-capacity _ _ _ (part .before .before .class-of .ensures) (omega arith) (slots-are part) (omega arith)
+    (counted (c .before)) (c .if3 .taken)) (refl, refl)
 
 take-requires : tie.Need-take-requires
 take-requires c κs =
     let part = c .before .before .before .before .before .before .before in
     let sized = slots-are part in
-    (part .before .before .before .before .before .pre, record { class = omega arith; some = omega arith; of = part .part .ensures })
+    (part .before .before .before .before .pre, record { class = omega arith; some = omega arith; of = part .part .ensures })
 
 same-length-2 : tie.Need-same-length-2
 same-length-2 c = search needs
 
-returns-5 : tie.Need-returns-5
-returns-5 c =
+returns-4 : tie.Need-returns-4
+returns-4 c =
     let tested = c .before .before .before .before in
     let part = tested .before .before .before .before .before .before in
-    let sized = part .before .before in
-    rw (roomy _ _ _ (sized .if1 .left) (sized .before .class-of .ensures) (omega arith) (slots-are part) (omega arith)
-    (counted (tested .before)) (tested .if4 .left))
+    rw (roomy _ _ _ (part .before .before .class-of .ensures) (omega arith) (slots-are part) (omega arith)
+    (counted (tested .before)) (tested .if3 .left))
     (c .before .before .take .ensures)
 
 pub allocate-spec : {M : Type 1} → statement M
@@ -81,12 +75,11 @@ allocate-spec =
     (tie.spec
     class-of-requires
     returns
-    returns-2
     part-requires
-    returns-3
+    returns-2
     count-requires
     same-length
-    returns-4
+    returns-3
     take-requires
     same-length-2
-    returns-5)
+    returns-4)
