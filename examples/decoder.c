@@ -1,7 +1,8 @@
 /*
  * Decodes a beacon's search log three times, each time on a heap of its own with seeds of its own, and passes on what
  * two copies agree on. The decoder has two faults, a name that does not fit its object and an object that is freed
- * twice: on this heap neither does harm. A signal without a name is stored with an empty one, an object of 0 bytes.
+ * twice: on this heap neither does harm. The name is clipped and still ends, so that it prints as any other. A signal
+ * without a name is stored with an empty one, an object of 0 bytes.
  */
 #include "poheldu.h"
 
@@ -15,8 +16,7 @@ enum { REGION = 4096, LINE = 128, NAME = 16, COPIES = 3, OUTPUT = 256 };
 struct signal {
     struct signal *next;
     unsigned long minute, metres;
-    char *name;      /* with a closing zero only where it fits */
-    size_t name_len; /* bytes of the name that were stored, its closing zero among them */
+    char *name;
 };
 
 /* What became of a log. */
@@ -55,8 +55,8 @@ static struct signal *read_signal(const poheldu_heap *h, const char *line)
         return NULL;
     s->minute = minute;
     s->metres = metres;
-    /* The name may be longer than its object: the copy ends with the object all the same. */
-    s->name_len = poheldu_strcpy(h, s->name, name).value;
+    /* The name may be longer than its object: the copy ends there all the same, with a zero. */
+    poheldu_strcpy(h, s->name, name);
     return s;
 }
 
@@ -96,8 +96,7 @@ static void report_on(const poheldu_heap *h, struct decoded d, char report[OUTPU
     size_t at = (size_t)snprintf(report, OUTPUT, "%u signals, %u lines not read\n", d.count, d.unread);
     for (struct signal *s = d.signals, *next; s != NULL && at < OUTPUT; s = next) {
         next = s->next;
-        at += (size_t)snprintf(report + at, OUTPUT - at, "minute %lu, %lu m: \"%.*s\"\n", s->minute, s->metres,
-                               (int)s->name_len, s->name);
+        at += (size_t)snprintf(report + at, OUTPUT - at, "minute %lu, %lu m: \"%s\"\n", s->minute, s->metres, s->name);
         poheldu_delete(h, s->name);
         poheldu_delete(h, s->name); /* once too often: refused, and nothing changes */
         poheldu_delete(h, s);

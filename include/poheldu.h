@@ -21,11 +21,11 @@
  *         char *name = poheldu_new(&h, 8);
  *         if (a.number != POHELDU_SERVED || name == NULL)
  *             return 1;
- *         a = poheldu_strncpy(&h, name, "Bertrand of the long name", 32);
- *         printf("%u bytes: %.8s\n", a.value, name);  // prints 8 bytes: Bertrand
+ *         a = poheldu_strcpy(&h, name, "Bertrand of the long name");
+ *         printf("%u bytes: %s\n", a.value, name);  // prints 8 bytes: Bertran
  *         poheldu_delete(&h, name);
  *         a = poheldu_delete(&h, name);
- *         printf("%s\n", poheldu_name(a.number));     // prints not allocated
+ *         printf("%s\n", poheldu_name(a.number));   // prints not allocated
  *         return 0;
  *     }
  *
@@ -383,8 +383,8 @@ POHELDU_NODISCARD static inline poheldu_view poheldu_look(const poheldu_heap *h,
  *
  * "Overlap: safe" means that the source may lie in the heap, in another object or in the same, over
  * what is written: it is read before anything is written, as memmove does. For such a source the
- * call takes POHELDU_LARGEST_OBJECT (16,384) bytes of stack, for others none. A source that shares
- * a byte with the metadata stays the caller's fault.
+ * call takes POHELDU_LARGEST_OBJECT + 1 (16,385) bytes of stack, for others none. A source that
+ * shares a byte with the metadata stays the caller's fault.
  */
 
 /*
@@ -397,10 +397,10 @@ static inline poheldu_answer poheldu_memcpy(const poheldu_heap *h, void *to, con
                                             size_t len);
 
 /*
- * Copies a string with its closing zero. Where it is clipped, the object has no closing zero: the
- * value is then at most the string's length. Of from no byte is read after its first zero, nor
- * after POHELDU_LARGEST_OBJECT bytes, nor past the end of the heap if it lies in it: a clipped
- * string in the heap is read on through the next zero. Overlap: safe.
+ * Copies a string with its closing zero. One that does not fit is clipped and still ends: the
+ * object's last byte is zero, and the value, which counts it, is at most the string's length. Of
+ * from no byte is read after its first zero, nor after POHELDU_LARGEST_OBJECT + 1 bytes, nor past
+ * the end of the heap if it lies in it. Overlap: safe.
  *
  *     if (poheldu_strcpy(h, p, text).value <= strlen(text))
  *         fprintf(stderr, "cut short\n");
@@ -559,17 +559,18 @@ static inline int poheldu_overlap_(const void *a, size_t a_len, const void *b, s
 
 /*
  * A copy from a source that shares bytes with the heap, by way of a buffer that shares none. The
- * buffer takes the source's first 16,384 bytes, and that makes no difference. The checks do not
+ * buffer takes the source's first 16,385 bytes, and that makes no difference. The checks do not
  * look at the source. What is written is the front of the copy's content, as far as the object
  * goes: at most 16,384 bytes. Byte i of the content depends on the source's bytes 0 to i alone (it
- * is byte i, or 0 from the first zero on in a padded copy), so the first 16,384 are the same. And a
- * content that ends sooner because the source does still has 16,384 bytes; no object takes more.
+ * is byte i, or 0 from the first zero on in a padded copy), so the first 16,385 are the same, and a
+ * content that ends sooner because the source does still has as many. So a string that is longer
+ * than its object is so here too, and closed.
  */
 POHELDU_APART poheldu_answer poheldu_copy_staged_(const poheldu_heap *h, uint32_t operation,
                                                   size_t offset, size_t count, const void *source,
                                                   size_t len)
 {
-    uint8_t stage[POHELDU_LARGEST_OBJECT];
+    uint8_t stage[POHELDU_LARGEST_OBJECT + 1];
     const size_t staged = len < sizeof stage ? len : sizeof stage;
     memcpy(stage, source, staged);
     return poheldu_request(h, operation, poheldu_word_(offset), poheldu_word_(count), stage,
@@ -600,8 +601,9 @@ static inline poheldu_answer poheldu_copy_bytes(const poheldu_heap *h, size_t of
 }
 
 /*
- * The same of the source through its first zero byte, or to its end where it has none. A clipped
- * string has no closing zero. Overlap: safe.
+ * The same of the source through its first zero byte, or to its end where it has none. Where that
+ * is longer than what is left of the object, it is clipped and closed: the object's last byte
+ * becomes zero. A string that just fits without a zero gets none. Overlap: safe.
  *
  *     poheldu_copy_string(h, offset, data, len);
  */
@@ -669,11 +671,14 @@ static inline size_t poheldu_text_(const poheldu_heap *h, const char *text, size
     return len < most ? len + 1 : most;
 }
 
-/* No copy writes more than the longest object, so no more is read. */
+/*
+ * No copy writes more than the longest object. Whether a string of that length is clipped, the byte
+ * after it says; no more are read.
+ */
 static inline poheldu_answer poheldu_strcpy(const poheldu_heap *h, void *to, const char *from)
 {
     return poheldu_copy_string(h, poheldu_offset(h, to), from,
-                               poheldu_text_(h, from, POHELDU_LARGEST_OBJECT));
+                               poheldu_text_(h, from, POHELDU_LARGEST_OBJECT + 1));
 }
 
 static inline poheldu_answer poheldu_strncpy(const poheldu_heap *h, void *to, const char *from,

@@ -227,6 +227,10 @@ static void copies_within_an_object(void)
     EXPECT(memcmp(p, "abcdefg\0fg\0lmnop", 16) == 0);
     EXPECT(is(poheldu_strncpy(&h, p + 2, p, 12), POHELDU_SERVED, 12));
     EXPECT(memcmp(p, "ababcdefg\0\0\0\0\0op", 16) == 0);
+    memcpy(p, "abcdefghijklmno\0", 16);
+    EXPECT(is(poheldu_strcpy(&h, p + 3, p), POHELDU_SERVED, 13));
+    EXPECT(memcmp(p, "abcabcdefghijkl\0", 16) == 0);
+    memcpy(p, "ababcdefg\0\0\0\0\0op", 16);
     EXPECT(is(poheldu_strncpy(&h, p, p + 2, 4), POHELDU_SERVED, 4));
     EXPECT(memcmp(p, "abcdcdefg\0\0\0\0\0op", 16) == 0);
     EXPECT(is(poheldu_memcpy(&h, p, p, 16), POHELDU_SERVED, 16));
@@ -264,7 +268,7 @@ static void sources_elsewhere(void)
     EXPECT(is(poheldu_memcpy(&h, to, from, len), POHELDU_SERVED, 512) && lent == from && lent_len == len);
     EXPECT(is(poheldu_memcpy(&h, to, NULL, 0), POHELDU_SERVED, 0) && lent == NULL && lent_len == 0);
     EXPECT(is(poheldu_copy_string(&h, poheldu_offset(&h, to), from, len), POHELDU_SERVED, 512) && lent == from &&
-           lent_len == len);
+           lent_len == len && to[510] == 'x' && to[511] == 0);
     EXPECT(is(poheldu_copy_padded(&h, poheldu_offset(&h, to), from, len, 9), POHELDU_SERVED, 9) && lent == from &&
            lent_len == len);
     EXPECT(is(poheldu_copy_padded(&h, poheldu_offset(&h, to), NULL, 0, 9), POHELDU_SERVED, 9) && to[0] == 0 &&
@@ -293,17 +297,44 @@ static void ends_of_texts(void)
     memcpy(text, "Cleos", 5);
     EXPECT(is(poheldu_strncpy(&h, p, text, 5), POHELDU_SERVED, 5) && memcmp(p, "Cleos\0\0\0", 8) == 0);
     EXPECT(is(poheldu_strncpy(&h, p, NULL, 0), POHELDU_SERVED, 0) && memcmp(p, "Cleos\0\0\0", 8) == 0);
-    EXPECT(is(poheldu_strcpy(&h, p, "Bertrand"), POHELDU_SERVED, 8) && memcmp(p, "Bertrand", 8) == 0);
+    EXPECT(is(poheldu_strcpy(&h, p, "Bertrand"), POHELDU_SERVED, 8) && memcmp(p, "Bertran", 8) == 0);
     EXPECT(is(poheldu_strcpy(&h, p + 4, "Ann"), POHELDU_SERVED, 4) && memcmp(p, "BertAnn", 8) == 0);
     memcpy(end - 3, "end", 3);
     EXPECT(is(poheldu_strcpy(&h, p, end - 3), POHELDU_SERVED, 3) && memcmp(p, "endtAnn", 8) == 0);
     EXPECT(is(poheldu_strncpy(&h, p, end - 3, 6), POHELDU_SERVED, 6) && memcmp(p, "end\0\0\0n", 8) == 0);
-    char *const longest = (char *)allocated(POHELDU_LARGEST_OBJECT);
-    memset(longest, 'x', POHELDU_LARGEST_OBJECT);
-    EXPECT(is(poheldu_strcpy(&h, p, longest), POHELDU_SERVED, 8) && memcmp(p, "xxxxxxxx", 8) == 0);
+    char *const longest = (char *)allocated(POHELDU_LARGEST_OBJECT + 1);
+    memset(longest, 'x', POHELDU_LARGEST_OBJECT + 1);
+    EXPECT(is(poheldu_strcpy(&h, p, longest), POHELDU_SERVED, 8) && memcmp(p, "xxxxxxx", 8) == 0);
+    EXPECT(lent_len == POHELDU_LARGEST_OBJECT + 1);
     EXPECT(is(poheldu_strncpy(&h, p, longest, SIZE_MAX), POHELDU_SERVED, 8));
     free(longest);
     free(text);
+    closed(h);
+}
+
+/* Names of all lengths, with their zero and without, into an object of 8 bytes: the byte after it stays. */
+static void clipped_names(void)
+{
+    const poheldu_heap h = opened(1024);
+    const char letters[] = "ABCDEFGHIJKLMNOPQRST";
+    const size_t room = 8;
+    char *const p = (char *)poheldu_new(&h, room), name[sizeof letters], want[8];
+    const char after = p[room];
+    for (size_t len = 0; len < sizeof letters; len++)
+        for (size_t zero = 0; zero < 2; zero++) {
+            const size_t whole = len + zero, written = whole < room ? whole : room;
+            memcpy(name, letters, len);
+            name[len] = '\0';
+            memset(p, 'x', room);
+            memset(want, 'x', room);
+            memcpy(want, name, written);
+            if (whole > room)
+                want[room - 1] = '\0';
+            EXPECT(is(zero ? poheldu_strcpy(&h, p, name) : poheldu_copy_string(&h, poheldu_offset(&h, p), name, len),
+                      POHELDU_SERVED, (uint32_t)written));
+            EXPECT(memcmp(p, want, room) == 0 && p[room] == after);
+            EXPECT(!zero || strlen(p) == (len < room ? len : room - 1));
+        }
     closed(h);
 }
 
@@ -552,6 +583,7 @@ int main(void)
     looks_everywhere();
     destinations_outside();
     ends_of_texts();
+    clipped_names();
     sources_elsewhere();
     copies_within_an_object();
     long_sources();

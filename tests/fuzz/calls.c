@@ -14,6 +14,7 @@ static struct {
     uint64_t served[OPERATIONS]; /* served requests, by operation */
     uint64_t requests, walks;    /* walks: allocations that took another slot than the last one drawn */
     uint64_t of_nothing;         /* served allocations of 0 bytes */
+    uint64_t strings[4];         /* strings copied: shorter than the space, as long with a zero, as long without, longer */
     uint64_t shown[2][2];        /* reads served, by of_page and by whether the part has a byte */
 } seen;
 
@@ -102,20 +103,35 @@ static bool was_walk(lent_heap h, uint32_t offset)
     return drawn != offset % region / slot_size;
 }
 
-static bool asks_for_nothing(const twin *request)
+static uint32_t argument_of(const twin *request)
 {
-    static const uint8_t nothing[4];
-    return memcmp(twin_ours(request) + 4, nothing, sizeof nothing) == 0;
+    const uint8_t *const bytes = twin_ours(request);
+    return bytes[4] | (uint32_t)bytes[5] << 8 | (uint32_t)bytes[6] << 16 | (uint32_t)bytes[7] << 24;
 }
 
-static void count_served(lent_heap h, const twin *request, uint32_t value)
+/* A string where nothing is live counts for none. */
+static void count_string(lent_heap h, uint32_t offset, const twin *source)
+{
+    const twin *const heap = h.heap, *const metadata = h.metadata;
+    const size_t space =
+        poheldu_read(twin_ours(heap), heap->len, twin_ours(metadata), metadata->len, offset, UINT32_MAX, NULL, 0).value;
+    const uint8_t *const zero = source->len > 0 ? memchr(twin_ours(source), 0, source->len) : NULL;
+    const size_t length = zero != NULL ? (size_t)(zero - twin_ours(source)) + 1 : source->len;
+    if (space > 0)
+        seen.strings[length < space ? 0 : length > space ? 3 : zero != NULL ? 1 : 2]++;
+}
+
+static void count_served(lent_heap h, const twin *request, const twin *source, uint32_t value)
 {
     const uint8_t operation = twin_ours(request)[0];
+    const uint32_t argument = argument_of(request);
     seen.served[operation]++;
-    if (operation != 0)
+    if (operation == POHELDU_COPY_STRING)
+        count_string(h, argument, source);
+    if (operation != POHELDU_ALLOCATE)
         return;
     seen.walks += was_walk(h, value);
-    seen.of_nothing += asks_for_nothing(request);
+    seen.of_nothing += argument == 0;
 }
 
 bool calls_saw_all(void)
@@ -125,6 +141,8 @@ bool calls_saw_all(void)
         all = all && seen.numbers[i] > 0;
     for (int i = 0; i < OPERATIONS; i++)
         all = all && seen.served[i] > 0;
+    for (int i = 0; i < 4; i++)
+        all = all && seen.strings[i] > 0;
     for (int i = 0; i < 2; i++)
         all = all && seen.shown[i][0] > 0 && seen.shown[i][1] > 0;
     return all;
@@ -141,6 +159,8 @@ void calls_report(void)
     for (int i = 0; i < OPERATIONS; i++)
         fprintf(stderr, " %" PRIu64, seen.served[i]);
     fprintf(stderr, "; allocations by the walk: %" PRIu64 ", of 0 bytes: %" PRIu64 "\n", seen.walks, seen.of_nothing);
+    fprintf(stderr, "fuzz: strings shorter than the space: %" PRIu64 ", as long with a zero: %" PRIu64, seen.strings[0], seen.strings[1]);
+    fprintf(stderr, ", without: %" PRIu64 ", longer: %" PRIu64 "\n", seen.strings[2], seen.strings[3]);
     fprintf(stderr, "fuzz: parts shown of the heap: %" PRIu64 ", empty %" PRIu64 "; of the page: %" PRIu64 ", empty %" PRIu64 "\n", seen.shown[0][1],
             seen.shown[0][0], seen.shown[1][1], seen.shown[1][0]);
     fprintf(stderr, "fuzz: %" PRIu64 " calls, %" PRIu64 " of them requests\n", calls, seen.requests);
@@ -169,7 +189,7 @@ poheldu_answer call_serve(lent_heap h, const twin *request, const twin *source, 
     seen.numbers[ours.number]++;
     seen.requests++;
     if (ours.number == POHELDU_SERVED)
-        count_served(h, request, ours.value);
+        count_served(h, request, source, ours.value);
     return ours;
 }
 

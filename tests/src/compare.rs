@@ -12,6 +12,7 @@ const REFUSALS: usize = 13;
 const OPERATIONS: usize = 7;
 const BUFFERS: usize = 7;
 const KINDS: usize = 8;
+const STRINGS: usize = 6;
 
 /// The kinds of reads that are told apart, in the order they are counted in.
 pub const READ_KINDS: [&str; KINDS] = [
@@ -23,6 +24,16 @@ pub const READ_KINDS: [&str; KINDS] = [
     "refused with 2",
     "refused with 3",
     "refused with 8",
+];
+
+/// The kinds of string copies that are told apart, in the order they are counted in.
+pub const STRING_KINDS: [&str; STRINGS] = [
+    "with room to spare",
+    "that fill the space, with a zero",
+    "that fill the space, without a zero",
+    "longer by their zero",
+    "longer by more",
+    "where there is no space",
 ];
 
 /// Two equal buffers, one for each implementation. Guard bytes around them
@@ -225,6 +236,20 @@ fn read_kind(part: Part, count: u32) -> usize {
     }
 }
 
+/// Which of `STRING_KINDS` a copy of a string was.
+fn string_kind(source: &[u8], space: usize) -> usize {
+    let zero = source.iter().position(|&byte| byte == 0);
+    let length = zero.map_or(source.len(), |zero| zero + 1);
+    match (space, zero) {
+        (0, _) => 5,
+        (_, _) if length < space => 0,
+        (_, Some(_)) if length == space => 1,
+        (_, None) if length == space => 2,
+        (_, Some(_)) if length == space + 1 => 3,
+        _ => 4,
+    }
+}
+
 /// Makes the calls, counts them, and stops the program at a difference.
 pub struct Tester {
     pub seed: u64,
@@ -241,6 +266,8 @@ pub struct Tester {
     pub malformed: [u64; 2],
     /// Allocations of nothing, served and refused at capacity, and of 16,385 bytes.
     pub edge_sizes: [u64; 3],
+    /// Served copies of strings, of each kind.
+    pub strings: [u64; STRINGS],
     /// Allocations that took a slot that was not drawn.
     pub walks: u64,
     /// Walks that went past the last slot.
@@ -262,6 +289,7 @@ impl Tester {
             read_requests: [0; KINDS],
             malformed: [0; 2],
             edge_sizes: [0; 3],
+            strings: [0; STRINGS],
             walks: 0,
             wraps: 0,
             nulls: [0; BUFFERS],
@@ -417,14 +445,19 @@ impl Tester {
         }
     }
 
-    /// Counts reads, whose kind the second implementation tells, requests with
-    /// one thing wrong, and sizes at an edge.
+    /// Counts reads, whose kind the second implementation tells, copies of
+    /// strings, requests with one thing wrong, and sizes at an edge.
     fn count_request(&mut self, heap: &Twin, metadata: &Twin, lent: &Lent, answer: Answer) {
         match (inputs::words(lent.request.bytes()), answer.number) {
             (Some([6, offset, count, 0]), _) => {
                 let (heap, page) = (heap.bytes(), lent.page.bytes());
                 let part = reference::read(heap, metadata.bytes(), offset, count, page);
                 self.read_requests[read_kind(part, count)] += 1;
+            }
+            (Some([4, offset, 0, 0]), 0) => {
+                let (heap, most) = (heap.bytes(), u32::MAX);
+                let space = reference::read(heap, metadata.bytes(), offset, most, &[]).value;
+                self.strings[string_kind(lent.source.bytes(), space as usize)] += 1;
             }
             (Some([7, _, _, 0]), 4) => self.malformed[0] += 1,
             (Some([4, _, _, 0]), 4) => self.malformed[1] += 1,

@@ -484,11 +484,17 @@ fn copy_bytes(target: &mut [u8], source: &[u8]) -> u32 {
     length as u32
 }
 
-/// Copies through the first zero byte, or the whole source if it has none.
+/// Copies through the first zero byte, or the whole source if it has none. Of
+/// a text longer than the target the last byte there becomes zero.
 fn copy_string(target: &mut [u8], source: &[u8]) -> u32 {
-    let clipped = &source[..source.len().min(target.len())];
-    let end = find_zero(clipped).map_or(clipped.len(), |zero| zero + 1);
-    copy_bytes(target, &clipped[..end])
+    let length = find_zero(source).map_or(source.len(), |zero| zero + 1);
+    let written = copy_bytes(target, &source[..length]);
+    if length > target.len() {
+        if let Some(last) = target.last_mut() {
+            *last = 0;
+        }
+    }
+    written
 }
 
 /// Copies what stands before the first zero byte, then zeros up to `count`.
@@ -690,6 +696,34 @@ mod tests {
         let mut bench = Bench::with_object();
         assert_eq!(bench.run(4, 640, 0, &[0x41, 0x42, 0, 0x43]), served(3));
         assert_eq!(bench.heap[639..644], [0xEE, 0x41, 0x42, 0, 0xEE]);
+    }
+
+    #[test]
+    fn clipped_string_is_closed() {
+        for (offset, source, value, bytes) in [
+            (640, &b"Valentina"[..], 8, b"Valenti\0\xEE"),
+            (640, b"Bertrand\0", 8, b"Bertran\0\xEE"),
+            (640, b"Bertrand", 8, b"Bertrand\xEE"),
+            (640, b"Bertran\0", 8, b"Bertran\0\xEE"),
+            (640, b"Anna\0Bertrand", 5, b"Anna\0\xEE\xEE\xEE\xEE"),
+            (643, b"Norbert", 5, b"\xEE\xEE\xEENorb\0\xEE"),
+            (643, b"Clara", 5, b"\xEE\xEE\xEEClara\xEE"),
+            (647, b"Jo", 1, b"\xEE\xEE\xEE\xEE\xEE\xEE\xEE\0\xEE"),
+            (648, b"Jo", 0, &[0xEE; 9]),
+        ] {
+            let mut bench = Bench::with_object();
+            assert_eq!(bench.run(4, offset, 0, source), served(value));
+            assert_eq!(bench.heap[640..649], *bytes);
+        }
+    }
+
+    #[test]
+    fn other_copies_are_not_closed() {
+        for (operation, count) in [(3, 0), (5, 9)] {
+            let mut bench = Bench::with_object();
+            assert_eq!(bench.run(operation, 640, count, b"Valentina"), served(8));
+            assert_eq!(bench.heap[639..649], *b"\xEEValentin\xEE");
+        }
     }
 
     #[test]

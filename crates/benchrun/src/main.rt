@@ -31,6 +31,7 @@ fn serve_input() -> u8
             &mut metadata,
             &mut input[0..end],
             got.count == 0,
+            b"",
             number,
             &mut out,
         );

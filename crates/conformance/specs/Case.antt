@@ -9,12 +9,15 @@ use Rattle.rules.specs.Open.{setup}
 use Rattle.rules.specs.Call.{State, opening}
 use Rattle.conformance.specs.declared.Case.{Case}
 
--- room for the bytes of a heap and of its metadata, and for requests
+-- room for the bytes of a heap, of its metadata and of a source, and for requests
 abbrev pub heapRoom : ℕ
 heapRoom = 98304
 
 abbrev pub metadataRoom : ℕ
 metadataRoom = 4096
+
+abbrev pub sourceRoom : ℕ
+sourceRoom = 8192
 
 abbrev pub requestsRoom : ℕ
 requestsRoom = 1024
@@ -28,7 +31,8 @@ caseOf header =
       metadata = min (metadataLength (layoutOf heap)) metadataRoom;
       z = wordAt header 4;
       w = wordAt header 8;
-      requests = requestSize * min (wordAt header 12) requestsRoom;
+      source = min (wordAt header 12) sourceRoom;
+      requests = requestSize * min (wordAt header 16) requestsRoom;
     }
 
 -- what the requests are served on: the heap as it was, and the metadata as the opening leaves it

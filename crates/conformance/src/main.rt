@@ -1,17 +1,18 @@
-// Runs cases from standard input: for each it opens a heap, serves requests on it, and prints a line for the opening
-// and one for each request.
+// Runs cases from standard input: for each it opens a heap, serves requests on it, and prints a line for the opening,
+// one for each request, and one with a digest of the heap's bytes.
 //
-// A case is a header of four little-endian words, the heap's length, z, w and a number of requests, and then the
-// requests, of sixteen bytes each. A heap length above 98,304 counts as 98,304, and a number of requests above 1,024 as
-// 1,024. The heap's bytes stay as the case before left them, and so does the metadata where an opening is refused. A
-// header that is cut short ends the run.
+// A case is a header of five little-endian words, the heap's length, z, w, the length of a source and a number of
+// requests, and then the source, which all requests are lent, and the requests, of sixteen bytes each. A heap length
+// above 98,304 counts as 98,304, a source's above 8,192 as 8,192, and a number of requests above 1,024 as 1,024. The
+// heap's bytes stay as the case before left them, and so does the metadata where an opening is refused. A header that is
+// cut short ends the run.
 use geometry::Plan;
 use libc::STDIN_FILENO;
 use libc::STDOUT_FILENO;
 use numbers::least;
 use numbers::wide;
 ghost use mathlib.Core.Path.{_≡_};
-ghost use Prim.Native.Nat.{_+_, _*_, _≤_, min};
+ghost use Prim.Native.Nat.{_+_, _*_, _^_, _<_, _≤_, min};
 ghost use lib.ListN.{length};
 ghost use Rattle.answer.specs.Reply.{Reply};
 ghost use Rattle.words.specs.Word.{wordAt};
@@ -20,21 +21,28 @@ ghost use Rattle.request.specs.Parse.{requestSize};
 ghost use Rattle.rules.specs.Open.{setup};
 ghost use Rattle.rules.specs.Call.{State, stateOf, opening};
 ghost use Rattle.replay.specs.Batch.{Batch, batchOf};
-ghost use Rattle.conformance.specs.Case.{heapRoom, metadataRoom, requestsRoom, caseOf, openedState};
+ghost use Rattle.conformance.specs.Case.{heapRoom, metadataRoom, sourceRoom, requestsRoom, caseOf, openedState};
+ghost use Rattle.conformance.specs.Digest.{digest};
 
-// Room for the bytes of a heap and of its metadata, and for requests.
+// Room for the bytes of a heap, of its metadata and of a source, and for requests.
 const HEAP: usize = 98304;
 
 const METADATA: usize = 4096;
 
+const SOURCE: usize = 8192;
+
 const REQUESTS: usize = 1024;
 
-// The lengths of a case's heap, metadata and requests, and its seeds.
+// The bytes of a header.
+const HEADER: usize = 20;
+
+// The lengths of a case's heap, metadata, source and requests, and its seeds.
 struct Case {
     heap: usize,
     metadata: usize,
     z: u32,
     w: u32,
+    source: usize,
     requests: usize,
 }
 
@@ -56,34 +64,57 @@ fn word_up_to(header: &[u8], at: usize, most: usize) -> usize
 fn case_of(header: &[u8]) -> Case
     ensures { λ r. ⌜ r ≡ caseOf (now (header .entry)) ⌝ }
     ensures { λ r.
-        ⌜ (r .heap ≤ heapRoom) × (r .metadata ≤ metadataRoom) × (r .requests ≤ requestSize * requestsRoom) ⌝ }
+        ⌜ (r .heap ≤ heapRoom) × (r .metadata ≤ metadataRoom) × (r .source ≤ sourceRoom)
+        × (r .requests ≤ requestSize * requestsRoom) ⌝ }
 {
     let heap = word_up_to(header, 0, HEAP);
-    let requests = word_up_to(header, 12, REQUESTS);
+    let requests = word_up_to(header, 16, REQUESTS);
     Case {
         heap,
         metadata: least(Plan::of(heap).metadata, METADATA),
         z: words::get(header, 4),
         w: words::get(header, 8),
+        source: word_up_to(header, 12, SOURCE),
         requests: request::SIZE * requests,
     }
 }
 
+// A number that every byte moves: two heaps that differ in one byte have different ones.
+fn digest(bytes: &[u8]) -> u64
+    ensures { λ r. ⌜ r ≡ digest 0 (now (bytes .entry)) ⌝ }
+{
+    let mut sum: u64 = 0;
+    let mut i: usize = 0;
+    while i < bytes.len() {
+        sum = (31 * sum + bytes[i] as u64) % (1 << 32);
+        i += 1;
+    }
+    sum
+}
+
 // Opens the heap, and serves the requests whatever the opening answered.
-fn run(heap: &mut [u8], metadata: &mut [u8], z: u32, w: u32, requests: &[u8], out: &mut [u8]) -> Ran
+fn run(
+    heap: &mut [u8],
+    metadata: &mut [u8],
+    z: u32,
+    w: u32,
+    source: &[u8],
+    requests: &[u8],
+    out: &mut [u8],
+) -> Ran
     ensures { λ r.
         let opened : Reply = opening (length (now (heap .entry))) (now (metadata .entry)) (setup z w) .answer in
         ⌜ _≡_ {A = Reply} (record { number = r .number; value = r .value }) opened ⌝ }
     ensures { λ r.
         let s : State = openedState (now (heap .entry)) (now (metadata .entry)) z w in
-        let b : Batch = batchOf (length (now (out .entry))) s 1 (now (requests .entry)) in
+        let b : Batch = batchOf (now (source .entry)) (length (now (out .entry))) s 1 (now (requests .entry)) in
         ⌜ (r .written ≡ length (b .text))
         × (now (out .exit) ≡ overwrite (now (out .entry)) 0 (b .text))
         × (stateOf (now (heap .exit)) (now (metadata .exit)) ≡ b .state) ⌝ }
     ensures { λ r. ⌜ r .written ≤ length (now (out .exit)) ⌝ }
 {
     let answer = heap::open(heap, metadata, z, w);
-    let done = replay::batch(heap, metadata, requests, 1, out);
+    let done = replay::batch(heap, metadata, requests, source, 1, out);
     Ran {
         number: answer.number(),
         value: answer.value(),
@@ -100,28 +131,39 @@ fn print_opening(number: u32, value: u32) {
     io::write_all(STDOUT_FILENO, b"\n");
 }
 
+// Prints the line of a heap's bytes.
+fn print_heap(digest: u64) {
+    io::write_all(STDOUT_FILENO, b"heap ");
+    io::print_decimal(STDOUT_FILENO, digest);
+    io::write_all(STDOUT_FILENO, b"\n");
+}
+
 fn main() {
     let mut heap = [0u8; HEAP];
     let mut metadata = [0u8; METADATA];
-    let mut header = [0u8; 16];
+    let mut header = [0u8; HEADER];
+    let mut source = [0u8; SOURCE];
     let mut requests = [0u8; request::SIZE * REQUESTS];
     let mut out = io::large_buffer();
     let mut cases: u32 = 0;
     // A proved loop ends: this one ends with the input, or after more cases than any input has.
     while cases < u32::MAX {
-        if io::read_full(STDIN_FILENO, &mut header) < 16 {
+        if io::read_full(STDIN_FILENO, &mut header) < HEADER {
             return;
         }
         let case = case_of(&header);
         let heap_len = case.heap;
         let metadata_len = case.metadata;
+        let source_len = case.source;
         let requests_len = case.requests;
+        let lent = io::read_full(STDIN_FILENO, &mut source[0..source_len]);
         let got = io::read_full(STDIN_FILENO, &mut requests[0..requests_len]);
         let ran = run(
             &mut heap[0..heap_len],
             &mut metadata[0..metadata_len],
             case.z,
             case.w,
+            &source[0..lent],
             &requests[0..got],
             &mut out,
         );
@@ -130,6 +172,7 @@ fn main() {
         if !program::print(&out[0..written], b"conformance: standard output") {
             return;
         }
+        print_heap(digest(&heap[0..heap_len]));
         cases += 1;
     }
 }

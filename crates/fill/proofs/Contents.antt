@@ -6,29 +6,68 @@ use native.Mathlib.Nat.{sub-zero, sub-self}
 use native.Mathlib.Numerals.{add-one}
 use native.Mathlib.Decide.{decLe}
 use native.Mathlib.Omega.{arith}
-use lib.ListN.{length, take, drop, replicate, length-append, length-take, length-drop, length-replicate}
-use lib.Seq.{take-all, length-take-le, take-take, take-at, drop-at, drop-drop, take-append-le, take-append-add}
+use lib.ListN.{length, take, drop, set, replicate, length-append, length-take, length-drop, length-set, length-replicate}
+use lib.Seq.{take-all, drop-length, length-take-le, take-take, take-at, drop-at, drop-drop, take-append-le, take-append-add}
 use Rattle.bytes.specs.Bytes.{indexOf}
 use Rattle.fill.proofs.Index.{index-le}
 use Rattle.request.specs.declared.Kind.the-variants.{String, Padded}
 use Rattle.writing.specs.Overwrite.{overwrite}
 use Rattle.writing.proofs.Fitting.{Put}
-use Rattle.rules.specs.Object.{writes}
+use Rattle.rules.specs.Object.{clipped, writes}
+use Rattle.rules.proofs.Clipping.{clipped-fits, clipped-longer}
 
 -- ---- strings
 
-module _ (s t : List ℕ) (n : ℕ) {end : ℕ} (found : end ≡ min n (indexOf 0 s)) where
-  -- the source through the zero byte that was found
-  pub string-part : end < n → take (length t) (take (end + 1 - 0) s) ≡ writes String s (length t)
-  string-part h = let all : end ≡ indexOf 0 s = omega (arith, found) in rw (← all, sub-zero, add-one)
+-- as many bytes as the target has
+overwrite-all : (t text : List ℕ) → length text ≡ length t → overwrite t 0 text ≡ text
+overwrite-all t text e = rw (e, drop-length, append-nil)
 
-  -- none among those that fit: as far as they do, it is the source
-  pub string-whole : n ≡ min (length s) (length t) → n ≤ end → take (length t) s ≡ writes String s (length t)
-  string-whole e h = go (decLe (length t) (suc (indexOf 0 s)))
-    where
-      go : Dec (length t ≤ suc (indexOf 0 s)) → take (length t) s ≡ writes String s (length t)
-      go (yes l) = sym (take-take (length t) (suc (indexOf 0 s)) s l)
-      go (no l) = sym (ap (take (length t)) (take-all (suc (indexOf 0 s)) s (omega (arith, found))))
+-- a source was written as far as it fits
+module _ (s t : List ℕ) {r : ℕ} {mid : List ℕ} (put : Put t (take (length t) s) r mid) where
+  -- that is all of it
+  pub clipped-whole : length s ≤ length t → Put t (clipped (length t) s) r mid
+  clipped-whole h = rw (clipped-fits (length t) s h, ← take-all (length t) s h) put
+
+  module _ (long : length t < length s) where
+    -- it is longer, and there is no room
+    pub clipped-nowhere : length t ≡ 0 → Put t (clipped (length t) s) r mid
+    clipped-nowhere none =
+        let text : clipped (length t) s ≡ take (length t) s = clipped-longer (length t) s long ∙ rw none in
+        rw text put
+
+    -- it is longer, and the last byte was set to zero
+    pub clipped-closed : Put t (clipped (length t) s) r (set mid (length t - 1) 0)
+    clipped-closed =
+        let front : List ℕ = take (length t) s in
+        let closed : List ℕ = set front (length t - 1) 0 in
+        let full : length front ≡ length t = length-take-le (length t) s (omega arith) in
+        let size : length closed ≡ length t = length-set front (length t - 1) 0 ∙ full in
+        let whole : mid ≡ front = put .1 ∙ overwrite-all t front full in
+        rw (clipped-longer (length t) s long) (put .0 ∙ full ∙ sym size, rw whole (sym (overwrite-all t closed size)))
+
+-- the first zero byte was sought among those that fit
+module _ (s : List ℕ) (room : ℕ) {seen end : ℕ} (fit : seen ≡ min (length s) room) (found : end ≡ min seen (indexOf 0 s)) where
+  abbrev text : List ℕ
+  text = take (suc (indexOf 0 s)) s
+
+  -- it is there: the source through it fits
+  pub string-part : end < seen → take room (take (end + 1 - 0) s) ≡ writes String s room
+  string-part h =
+      let all : end ≡ indexOf 0 s = omega arith in
+      let fits : length text ≤ room = rw length-take (omega arith) in
+      rw (all, sub-zero, add-one) (take-all room text fits ∙ sym (clipped-fits room text fits))
+
+  -- there is none: the source is the string, or both are longer than the room and begin alike
+  pub string-rest : seen ≤ end → clipped room s ≡ writes String s room
+  string-rest none = elim (decLe (length s) room) [
+    | yes l ↦
+        let whole : text ≡ s = take-all (suc (indexOf 0 s)) s (omega arith) in
+        ap (clipped room) (sym whole)
+    | no l ↦
+        let long : room < length text = rw length-take (omega arith) in
+        let same : take room text ≡ take room s = take-take room (suc (indexOf 0 s)) s (omega arith) in
+        clipped-longer room s (omega arith) ∙ rw (← same) (sym (clipped-longer room text long))
+  ]
 
 -- ---- padded copies
 

@@ -5,23 +5,17 @@ use mathlib.Core.List.{List, _++_}
 use native.Mathlib.Nat.{add-sub-cancel-left}
 use native.Mathlib.Omega.{arith}
 use borrow.Author.Tests.{lt-leb}
-use lib.ListN.{length, take, drop, length-take, length-drop}
+use lib.ListN.{length, take, drop, length-drop}
 use lib.Seq.{length-take-le}
 use Rattle.geometry.specs.declared.Layout.{Layout}
 use Rattle.geometry.specs.Layout.{heapLength}
 use Rattle.request.specs.declared.Kind.{Kind}
-use Rattle.request.specs.declared.Kind.the-variants.{Bytes, String, Padded}
 use Rattle.answer.specs.Reply.{served}
 use Rattle.rules.specs.Outcome.{reply, heapAfter}
 use Rattle.rules.specs.Object.{space, writes, copy}
+use Rattle.rules.proofs.Clipping.{writes-le}
 use Rattle.writing.specs.Overwrite.{overwrite}
 use Rattle.writing.proofs.Fitting.{put-back}
-
--- no copy writes more than its room
-pub writes-le : (kind : Kind) (source : List ℕ) (room : ℕ) → length (writes kind source room) ≤ room
-writes-le Bytes source room = rw length-take (omega arith)
-writes-le String source room = rw length-take (omega arith)
-writes-le (Padded count) source room = rw length-take (omega arith)
 
 module _ (G : Layout) (m h : List ℕ) (offset : ℕ) (kind : Kind) (source : List ℕ) {a room : ℕ} (inside : offset < heapLength G) (at : a ≡ offset)
     (measured : room ≡ space G m offset) (fits : a + room ≤ length h) where

@@ -20,7 +20,7 @@ use Rattle.vote.specs.Decide.{tabulate, digits, leader, count, decide}
 use Rattle.alike.proofs.Equal.{alike-equal}
 use Rattle.known_answers.specs.Calls.{Row, row, numbers, opened, clear, answerTo, after, placeOf, showing, voting}
 use Rattle.known_answers.specs.Table.{table, start, oneObject, copying, bytesVoted}
-use Rattle.known_answers.specs.Further.{further, lastSet, firstSet, atCapacity, afterSeven, nearHalf, strayBits, onlySlotSet, shownThere}
+use Rattle.known_answers.specs.Further.{further, lastSet, firstSet, atCapacity, afterSeven, letters, kept, nearHalf, strayBits, onlySlotSet, shownThere}
 
 -- the two sides of each row are the same numbers
 allAlike : List Row → Bool
@@ -48,8 +48,8 @@ unfolding allAlike table start answerTo after oneObject numbers copying bytesVot
 computes = refl
 
 further-computes : allAlike further ≡ true
-unfolding allAlike further lastSet firstSet atCapacity afterSeven nearHalf strayBits onlySlotSet shownThere opened clear answerTo after
-    placeOf showing numbers voting row indexOf indexAfter first slotSize bitmapAt putByte countSet nextClear parse judge
+unfolding allAlike further lastSet firstSet atCapacity afterSeven letters kept nearHalf strayBits onlySlotSet shownThere opened clear answerTo after
+    start oneObject copying placeOf showing numbers voting row indexOf indexAfter first slotSize bitmapAt putByte countSet nextClear parse judge
     probe allocate free space remaining copy read serving opening alike tabulate digits leader count decide
 further-computes = refl
 

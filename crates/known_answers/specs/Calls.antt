@@ -53,6 +53,15 @@ free offset = requestBytes 1 offset 0
 abbrev pub remaining : ℕ → List ℕ
 remaining offset = requestBytes 2 offset 0
 
+abbrev pub copyBytes : ℕ → List ℕ
+copyBytes offset = requestBytes 3 offset 0
+
+abbrev pub copyString : ℕ → List ℕ
+copyString offset = requestBytes 4 offset 0
+
+abbrev pub copyPadded : ℕ → ℕ → List ℕ
+copyPadded offset count = requestBytes 5 offset count
+
 abbrev pub read : ℕ → ℕ → List ℕ
 read offset count = requestBytes 6 offset count
 

@@ -5,8 +5,9 @@ use mathlib.Core.List.{List, [], _∷_, _++_}
 use lib.ListN.{take, drop, set, replicate}
 use Rattle.geometry.specs.Layout.{layoutOf, header, classOf}
 use Rattle.request.specs.Parse.{requestBytes}
-use Rattle.known_answers.specs.Calls.{Row, row, heapOf, opened, clear, allocate, free, remaining, read}
-use Rattle.known_answers.specs.Calls.{answerTo, after, showing, voting}
+use Rattle.known_answers.specs.Calls.{Row, row, heapOf, opened, clear, allocate, free, remaining, copyBytes, copyString}
+use Rattle.known_answers.specs.Calls.{copyPadded, read, answerTo, after, showing, voting}
+use Rattle.known_answers.specs.Table.{copying}
 
 -- ---- regions of 4,096 bytes: class 4 has 32 slots of 128 bytes, and its bitmap is bytes 128 to 131
 
@@ -25,6 +26,14 @@ atCapacity = set (clear 4_096 0x9069 0x4650) 136 0x01
 -- the paper's bench run before its last request; a measuring and what was refused leave no trace
 unfoldable pub afterSeven : List ℕ
 afterSeven = after 4_096 (after 4_096 (after 4_096 (clear 4_096 1 1) (allocate 5)) (allocate 100)) (free 640)
+
+-- a name of at most nine letters, A to I
+unfoldable pub letters : ℕ → List ℕ
+letters n = take n (0x41 ∷ 0x42 ∷ 0x43 ∷ 0x44 ∷ 0x45 ∷ 0x46 ∷ 0x47 ∷ 0x48 ∷ 0x49 ∷ [])
+
+-- what was there before a copy
+unfoldable pub kept : ℕ → List ℕ
+kept n = replicate n 0xff
 
 -- ---- regions of 1,024 bytes: class 5 has 4 slots (byte 39), class 7 one (byte 41, heap from 7,168), class 8 none
 
@@ -89,6 +98,20 @@ further =
     ∷ row (answerTo 1_024 (nearHalf 0x7f) (allocate 0)) (0 ∷ 640 ∷ [])
     ∷ row (answerTo 1_024 (nearHalf 0xff) (allocate 0)) (7 ∷ 0 ∷ [])
     ∷ row (after 1_024 (nearHalf 0xff) (allocate 0)) (nearHalf 0xff)
+    -- strings into the 8 bytes at 640: 9 letters, and 8 with their zero, are clipped and closed; 8 letters, and 7 with
+    -- their zero, just fit
+    ∷ row (copying (copyString 640) (letters 9)) (0 ∷ 8 ∷ letters 7 ++ (0 ∷ kept 1))
+    ∷ row (copying (copyString 640) (letters 8 ++ (0 ∷ []))) (0 ∷ 8 ∷ letters 7 ++ (0 ∷ kept 1))
+    ∷ row (copying (copyString 640) (letters 8)) (0 ∷ 8 ∷ letters 8 ++ kept 1)
+    ∷ row (copying (copyString 640) (letters 7 ++ (0 ∷ []))) (0 ∷ 8 ∷ letters 7 ++ (0 ∷ kept 1))
+    -- from the middle on, 5 bytes are left; at the last byte the zero alone; past it nothing is live
+    ∷ row (copying (copyString 643) (letters 6)) (0 ∷ 5 ∷ kept 3 ++ (letters 4 ++ (0 ∷ kept 1)))
+    ∷ row (copying (copyString 643) (letters 5)) (0 ∷ 5 ∷ kept 3 ++ (letters 5 ++ kept 1))
+    ∷ row (copying (copyString 647) (letters 2)) (0 ∷ 1 ∷ kept 7 ++ (0 ∷ kept 1))
+    ∷ row (copying (copyString 648) (letters 9)) (0 ∷ 0 ∷ kept 9)
+    -- what is no string is clipped without an end
+    ∷ row (copying (copyBytes 640) (letters 9)) (0 ∷ 8 ∷ letters 8 ++ kept 1)
+    ∷ row (copying (copyPadded 640 9) (letters 9)) (0 ∷ 8 ∷ letters 8 ++ kept 1)
     -- reads of a live object: to its end, part of it, and nothing, which is no part of the page
     ∷ row (shownThere onlySlotSet (read 8_188 9)) (0 ∷ 4 ∷ 0 ∷ 8_188 ∷ 1 ∷ 2 ∷ 3 ∷ 4 ∷ [])
     ∷ row (shownThere onlySlotSet (read 8_189 2)) (0 ∷ 2 ∷ 0 ∷ 8_189 ∷ 2 ∷ 3 ∷ [])

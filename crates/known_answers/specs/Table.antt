@@ -5,11 +5,11 @@ use lib.ListN.{length, take, drop, set, replicate}
 use Rattle.mwc.specs.Draw.{next, drawn}
 use Rattle.geometry.specs.declared.Layout.{Layout}
 use Rattle.geometry.specs.Layout.{layoutOf, classOf, metadataLength}
-use Rattle.request.specs.Parse.{requestBytes}
 use Rattle.rules.specs.Open.{setup}
 use Rattle.rules.specs.Serve.{lent}
 use Rattle.rules.specs.Call.{Call, call, opening}
-use Rattle.known_answers.specs.Calls.{Row, row, seeds, numbers, heapOf, allocate, free, answerTo, after, voting}
+use Rattle.known_answers.specs.Calls.{Row, row, seeds, numbers, heapOf, allocate, free, copyBytes, copyString, copyPadded}
+use Rattle.known_answers.specs.Calls.{answerTo, after, voting}
 
 -- ---- a heap with regions of 4,096 bytes, opened with z = 1 and w = 1
 
@@ -47,11 +47,11 @@ table =
     ∷ row oneObject (set (set (set (set (set (replicate 138 0) 0 0x69) 1 0x90) 4 0x50) 5 0x46) 18 0x01)
     ∷ row (classOf G 8 ∷ classOf G 9 ∷ []) (0 ∷ 1 ∷ [])
     ∷ row (answerTo R (after R start (allocate 2_048)) (allocate 2_048)) (7 ∷ 0 ∷ [])
-    ∷ row (copying (requestBytes 3 643 0) (1 ∷ 2 ∷ 3 ∷ 4 ∷ 5 ∷ 6 ∷ 7 ∷ 8 ∷ []))
+    ∷ row (copying (copyBytes 643) (1 ∷ 2 ∷ 3 ∷ 4 ∷ 5 ∷ 6 ∷ 7 ∷ 8 ∷ []))
     (0 ∷ 5 ∷ 0xff ∷ 0xff ∷ 0xff ∷ 1 ∷ 2 ∷ 3 ∷ 4 ∷ 5 ∷ 0xff ∷ [])
-    ∷ row (copying (requestBytes 4 640 0) (0x41 ∷ 0x42 ∷ 0x00 ∷ 0x43 ∷ []))
+    ∷ row (copying (copyString 640) (0x41 ∷ 0x42 ∷ 0x00 ∷ 0x43 ∷ []))
     (0 ∷ 3 ∷ 0x41 ∷ 0x42 ∷ 0x00 ∷ 0xff ∷ 0xff ∷ 0xff ∷ 0xff ∷ 0xff ∷ 0xff ∷ [])
-    ∷ row (copying (requestBytes 5 640 4) (0x41 ∷ 0x00 ∷ 0x43 ∷ []))
+    ∷ row (copying (copyPadded 640 4) (0x41 ∷ 0x00 ∷ 0x43 ∷ []))
     (0 ∷ 4 ∷ 0x41 ∷ 0x00 ∷ 0x00 ∷ 0x00 ∷ 0xff ∷ 0xff ∷ 0xff ∷ 0xff ∷ 0xff ∷ [])
     ∷ row (answerTo R start (free 49_152)) (8 ∷ 0 ∷ [])
     ∷ row (bytesVoted (0x41 ∷ 0x42 ∷ 0x41 ∷ [])) (0 ∷ 5 ∷ 2 ∷ 0x41 ∷ [])

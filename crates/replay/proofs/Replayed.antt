@@ -56,22 +56,23 @@ pub behind-both : (x y : List ℕ) (b : Batch) → behind x (behind y b) ≡ beh
 behind-both x y b = rw append-assoc
 
 -- one of the requests that are left is served
-replay-more : (left : ℕ) (now : State) (next : ℕ) (input : List ℕ) → 0 < left
+replay-more : (source : List ℕ) (left : ℕ) (now : State) (next : ℕ) (input : List ℕ) → 0 < left
     → let request = take requestSize input in
-    replay left now next input
-    ≡ behind (lineFor now request next) (replay (left - 1) (stateAfter now request) (next + 1) (drop requestSize input))
+    let rest = drop requestSize input in
+    replay source left now next input
+    ≡ behind (lineFor now request source next) (replay source (left - 1) (stateAfter now request source) (next + 1) rest)
 unfolding replay
-replay-more left now next input some =
+replay-more source left now next input some =
     let one-more : left ≡ suc (left - 1) = omega arith in
-    ap (λ (k : ℕ). replay k now next input) one-more
+    ap (λ (k : ℕ). replay source k now next input) one-more
 
 -- part of a batch is served and `text` written: `left` requests from `at` on are left, numbered from `next` on
-pub record Replayed (before : State) (number : ℕ) (input out₀ : List ℕ) (now : State) (out : List ℕ)
+pub record Replayed (source : List ℕ) (before : State) (number : ℕ) (input out₀ : List ℕ) (now : State) (out : List ℕ)
     (left next at written : ℕ) : Type 0 where
   pub text : List ℕ
   pub wrote : Wrote out₀ out 0 text
   pub size : written ≡ length text
-  pub rest : batchOf (length out₀) before number input ≡ behind text (replay left now next (drop at input))
+  pub rest : batchOf source (length out₀) before number input ≡ behind text (replay source left now next (drop at input))
   pub within : at ≤ length input
   pub room : written + left * lineRoom ≤ length out
   pub numbers : next + left < 2 ^ 64
@@ -79,11 +80,11 @@ pub record Replayed (before : State) (number : ℕ) (input out₀ : List ℕ) (n
   pub heap-kept : length (now .heap) ≡ length (before .heap)
   pub metadata-kept : length (now .metadata) ≡ length (before .metadata)
 
-module _ {before : State} {number : ℕ} {input out₀ : List ℕ} where
+module _ {source : List ℕ} {before : State} {number : ℕ} {input out₀ : List ℕ} where
   -- nothing is served yet
   pub replayed-none : {left : ℕ} → left ≡ accepted (length out₀) number input → left * lineRoom ≤ length out₀
       → number + left < 2 ^ 64
-      → Replayed before number input out₀ before out₀ left number 0 0
+      → Replayed source before number input out₀ before out₀ left number 0 0
   replayed-none e room numbers =
       record {
         text = [];
@@ -99,10 +100,10 @@ module _ {before : State} {number : ℕ} {input out₀ : List ℕ} where
       }
 
   module _ {now : State} {out : List ℕ} {left next at written : ℕ}
-      (p : Replayed before number input out₀ now out left next at written) where
+      (p : Replayed source before number input out₀ now out left next at written) where
     -- all is served
     pub replayed-all : left ≤ 0
-        → batchOf (length out₀) before number input ≡ record { text = p .text; state = now; next = next }
+        → batchOf source (length out₀) before number input ≡ record { text = p .text; state = now; next = next }
     unfolding replay
     replayed-all h =
         let none : left ≡ 0 = omega arith in
@@ -112,14 +113,14 @@ module _ {before : State} {number : ℕ} {input out₀ : List ℕ} where
     pub replayed-more : 0 < left → {end r : ℕ} {w heap metadata : List ℕ}
         → end ≡ at + min requestSize (length input - at)
         → let request = take requestSize (drop at input) in
-        let line = lineFor now request next in
+        let line = lineFor now request source next in
         r ≡ length line → r ≤ lineRoom → w ≡ overwrite (take (length out - written) (drop written out)) 0 line
-        → stateOf heap metadata ≡ stateAfter now request
+        → stateOf heap metadata ≡ stateAfter now request source
         → length metadata ≡ length (now .metadata) → length heap ≡ length (now .heap)
-        → Replayed before number input out₀ (record { heap = heap; metadata = metadata })
+        → Replayed source before number input out₀ (record { heap = heap; metadata = metadata })
         (take written out ++ (w ++ drop (length out - written) (drop written out))) (left - 1) (next + 1) end (written + r)
     replayed-more some {end} {r} {w} {heap} {metadata} e size small bytes state m h =
-        let line : List ℕ = lineFor now (take requestSize (drop at input)) next in
+        let line : List ℕ = lineFor now (take requestSize (drop at input)) source next in
         let one = wrote-from out line written bytes (omega arith) in
         let all = wrote-then (p .wrote) one (omega arith) in
         record {
@@ -128,7 +129,7 @@ module _ {before : State} {number : ℕ} {input out₀ : List ℕ} where
           size = rw (length-append, size, p .size);
           rest =
               p .rest
-              ∙ rw (replay-more left now next (drop at input) some, state, request-rest input at end e)
+              ∙ rw (replay-more source left now next (drop at input) some, state, request-rest input at end e)
               (behind-both (p .text) line _);
           within = omega arith;
           room = omega (arith, wrote-length all);

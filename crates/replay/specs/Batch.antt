@@ -18,12 +18,13 @@ pub record Batch : Type 0 where
 abbrev pub behind : List ℕ → Batch → Batch
 behind text b = record { text = text ++ b .text; state = b .state; next = b .next }
 
--- the first k requests of an input, their lines numbered from a number on
-unfoldable pub replay : ℕ → State → ℕ → List ℕ → Batch
-replay zero s number input = record { text = []; state = s; next = number }
-replay (suc k) s number input =
+-- the first k requests of an input, one source beside them all, their lines numbered from a number on
+unfoldable pub replay : List ℕ → ℕ → State → ℕ → List ℕ → Batch
+replay source zero s number input = record { text = []; state = s; next = number }
+replay source (suc k) s number input =
     let request : List ℕ = take requestSize input in
-    behind (lineFor s request number) (replay k (stateAfter s request) (number + 1) (drop requestSize input))
+    behind (lineFor s request source number)
+    (replay source k (stateAfter s request source) (number + 1) (drop requestSize input))
 
 -- how many requests an input has: sixteen bytes each, the last perhaps shorter
 abbrev pub requests : List ℕ → ℕ
@@ -35,12 +36,12 @@ accepted room number input =
     cond (leb (requests input * lineRoom) room && ltb (number + requests input) (2 ^ 64)) (requests input) 0
 
 -- what a batch comes to
-abbrev pub batchOf : ℕ → State → ℕ → List ℕ → Batch
-batchOf room s number input = replay (accepted room number input) s number input
+abbrev pub batchOf : List ℕ → ℕ → State → ℕ → List ℕ → Batch
+batchOf source room s number input = replay source (accepted room number input) s number input
 
 -- what one request comes to; nothing where `room` bytes have no room for a line
-abbrev pub stepOf : ℕ → State → ℕ → List ℕ → Batch
-stepOf room s number request =
+abbrev pub stepOf : List ℕ → ℕ → State → ℕ → List ℕ → Batch
+stepOf source room s number request =
     cond (hasRoom room)
-    (record { text = lineFor s request number; state = stateAfter s request; next = number + 1 })
+    (record { text = lineFor s request source number; state = stateAfter s request source; next = number + 1 })
     (record { text = []; state = s; next = number })

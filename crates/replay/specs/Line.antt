@@ -23,5 +23,5 @@ abbrev pub hasRoom : ℕ → Bool
 hasRoom n = leb lineRoom n
 
 -- the line of a request
-abbrev pub lineFor : State → List ℕ → ℕ → List ℕ
-lineFor s request number = lineOf number (callOn s request .answer)
+abbrev pub lineFor : State → List ℕ → List ℕ → ℕ → List ℕ
+lineFor s request source number = lineOf number (callOn s request source .answer)

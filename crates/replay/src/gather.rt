@@ -33,12 +33,14 @@ pub fn serve(
     metadata: &mut [u8],
     input: &mut [u8],
     ended: bool,
+    source: &[u8],
     number: u64,
     out: &mut [u8],
 ) -> Served
     ensures { λ r.
         let s : State = stateOf (now (heap .entry)) (now (metadata .entry)) in
-        let b : Batch = batchOf (length (now (out .entry))) s number (ready ended (now (input .entry))) in
+        let asked = ready ended (now (input .entry)) in
+        let b : Batch = batchOf (now (source .entry)) (length (now (out .entry))) s number asked in
         ⌜ (r .written ≡ length (b .text)) × (r .next ≡ b .next)
         × (now (out .exit) ≡ overwrite (now (out .entry)) 0 (b .text))
         × (stateOf (now (heap .exit)) (now (metadata .exit)) ≡ b .state) ⌝ }
@@ -47,7 +49,7 @@ pub fn serve(
     ensures { λ r. ⌜ (r .written ≤ length (now (out .exit))) × (r .kept < requestSize) ⌝ }
 {
     let end = ready_len(input.len(), ended);
-    let done = crate::batch(heap, metadata, &input[0..end], number, out);
+    let done = crate::batch(heap, metadata, &input[0..end], source, number, out);
     let kept = writing::shift(input, end, REQUEST);
     Served {
         written: done.written,

@@ -40,18 +40,19 @@ fn put_line(out: &mut [u8], number: u64, refusal: u32, value: u32) -> usize
     put_field(out, third, value as u64, b'\n')
 }
 
-// Serves a request with an empty source and an empty page and writes its line at the front of the output. Where the output has no room
-// for a line, nothing is served or written, and the answer is 0.
+// Serves a request with a source and an empty page and writes its line at the front of the output. Where the output has
+// no room for a line, nothing is served or written, and the answer is 0.
 pub fn step(
     heap: &mut [u8],
     metadata: &mut [u8],
     request: &[u8],
+    source: &[u8],
     number: u64,
     out: &mut [u8],
 ) -> usize
     ensures { λ r.
         let s : State = stateOf (now (heap .entry)) (now (metadata .entry)) in
-        let b : Batch = stepOf (length (now (out .entry))) s number (now (request .entry)) in
+        let b : Batch = stepOf (now (source .entry)) (length (now (out .entry))) s number (now (request .entry)) in
         ⌜ (r ≡ length (b .text)) × (now (out .exit) ≡ overwrite (now (out .entry)) 0 (b .text))
         × (stateOf (now (heap .exit)) (now (metadata .exit)) ≡ b .state) ⌝ }
     ensures { λ r. ⌜ (r ≤ length (now (out .entry))) × (r ≤ lineRoom) ⌝ }
@@ -59,7 +60,7 @@ pub fn step(
     if out.len() < LINE_ROOM {
         return 0;
     }
-    let answer = heap::serve(heap, metadata, request, b"", b"");
+    let answer = heap::serve(heap, metadata, request, source, b"");
     put_line(out, number, answer.number(), answer.value())
 }
 
@@ -96,18 +97,20 @@ pub struct Done {
     pub next: u64,
 }
 
-// Serves every request of the input with an empty source and an empty page, and writes their lines one after another at the front of the
-// output. Where the output may be too short for the lines, or 64 bits for the numbers, nothing is served or written.
+// Serves every request of the input with one source and an empty page, and writes their lines one after another at the
+// front of the output. Where the output may be too short for the lines, or 64 bits for the numbers, nothing is served or
+// written.
 pub fn batch(
     heap: &mut [u8],
     metadata: &mut [u8],
     input: &[u8],
+    source: &[u8],
     number: u64,
     out: &mut [u8],
 ) -> Done
     ensures { λ r.
         let s : State = stateOf (now (heap .entry)) (now (metadata .entry)) in
-        let b : Batch = batchOf (length (now (out .entry))) s number (now (input .entry)) in
+        let b : Batch = batchOf (now (source .entry)) (length (now (out .entry))) s number (now (input .entry)) in
         ⌜ (r .written ≡ length (b .text)) × (r .next ≡ b .next)
         × (now (out .exit) ≡ overwrite (now (out .entry)) 0 (b .text))
         × (stateOf (now (heap .exit)) (now (metadata .exit)) ≡ b .state) ⌝ }
@@ -119,7 +122,14 @@ pub fn batch(
     let mut written: usize = 0;
     while left > 0 {
         let end = request_end(at, input.len());
-        written += step(heap, metadata, &input[at..end], next, &mut out[written..]);
+        written += step(
+            heap,
+            metadata,
+            &input[at..end],
+            source,
+            next,
+            &mut out[written..],
+        );
         at = end;
         next += 1;
         left -= 1;

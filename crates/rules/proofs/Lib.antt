@@ -1,4 +1,5 @@
 pub mod Accepting
+pub mod Clipping
 pub mod Metadata
 pub mod Space
 pub mod Finding

@@ -68,9 +68,9 @@ pub record State : Type 0 where
 abbrev pub stateOf : List ℕ → List ℕ → State
 stateOf heap metadata = record { heap = heap; metadata = metadata }
 
--- a request's call there with nothing lent beside it, and what it leaves
-abbrev pub callOn : State → List ℕ → Call
-callOn s request = call (length (s .heap)) (s .metadata) request (lent [])
+-- a request's call there with a source beside it and no page, and what it leaves
+abbrev pub callOn : State → List ℕ → List ℕ → Call
+callOn s request source = call (length (s .heap)) (s .metadata) request (lent source)
 
-abbrev pub stateAfter : State → List ℕ → State
-stateAfter s request = stateOf (callOn s request .heap (s .heap)) (callOn s request .metadata)
+abbrev pub stateAfter : State → List ℕ → List ℕ → State
+stateAfter s request source = stateOf (callOn s request source .heap (s .heap)) (callOn s request source .metadata)

@@ -2,7 +2,7 @@
 use Prim.Native.Nat.{ℕ, suc, _-_}
 use mathlib.Core.List.{List, [], _∷_, _++_}
 use mathlib.Core.Bool.{Bool, not, cond, _&&_}
-use lib.ListN.{length, take, replicate}
+use lib.ListN.{length, take, set, replicate}
 use lib.Dec.{leb, ltb, eqb}
 use Rattle.bytes.specs.Bytes.{indexOf}
 use Rattle.geometry.specs.declared.Layout.{Layout}
@@ -47,12 +47,16 @@ space G m offset =
 unfoldable pub remaining : Layout → List ℕ → ℕ → Outcome
 remaining G m offset = checked refused (ifPast G offset ∷ []) (told (space G m offset) offset [])
 
+-- a text in a given room: as it is where it fits; of a longer one what fits, with zero for the last byte
+abbrev pub clipped : ℕ → List ℕ → List ℕ
+clipped room text = cond (leb (length text) room) text (set (take room text) (room - 1) 0)
+
 -- what a copy of each kind writes in a given room, from the first byte on (the paper's plain, text and counted copy):
--- the source; the source through its first zero byte, or to its end; the source before its first zero byte or end, and
--- then zeros, count bytes in all
+-- the source; the source through its first zero byte, or to its end, closed where it is clipped; the source before its
+-- first zero byte or end, and then zeros, count bytes in all
 abbrev pub writes : Kind → List ℕ → ℕ → List ℕ
 writes Bytes source room = take room source
-writes String source room = take room (take (suc (indexOf 0 source)) source)
+writes String source room = clipped room (take (suc (indexOf 0 source)) source)
 writes (Padded count) source room = take room (take count (take (indexOf 0 source) source ++ replicate count 0))
 
 unfoldable pub copy : Layout → List ℕ → ℕ → Kind → List ℕ → Outcome

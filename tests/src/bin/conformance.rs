@@ -1,10 +1,12 @@
-//! By the second implementation, what the program `conformance` prints for the cases on standard input: a header of four words (the heap's
-//! length, z, w, the number of requests) and then the requests of each.
+//! By the second implementation, what the program `conformance` prints for the cases on standard input: a header of five words (the heap's
+//! length, z, w, the source's length, the number of requests) and then the source and the requests of each.
 
 use poheldu_tests::reference;
 use std::io::{self, Read, Write};
 
+const HEADER: usize = 20;
 const HEAP: usize = 98_304;
+const SOURCE: usize = 8_192;
 const REQUESTS: usize = 1024;
 
 fn word(bytes: &[u8], at: usize) -> u32 {
@@ -26,23 +28,32 @@ fn metadata_length(heap_len: usize) -> usize {
     }
 }
 
+/// Byte after byte, modulo 2^32.
+fn digest(bytes: &[u8]) -> u32 {
+    bytes.iter().fold(0u32, |sum, &byte| {
+        sum.wrapping_mul(31).wrapping_add(u32::from(byte))
+    })
+}
+
 fn main() -> io::Result<()> {
     let mut all = Vec::new();
     io::stdin().lock().read_to_end(&mut all)?;
     let mut input = &all[..];
     let mut out = io::BufWriter::new(io::stdout().lock());
     let (mut heap, mut metadata) = (vec![0; HEAP], vec![0; 4096]);
-    while input.len() >= 16 {
-        let header = take(&mut input, 16);
+    while input.len() >= HEADER {
+        let header = take(&mut input, HEADER);
         let heap = &mut heap[..HEAP.min(word(header, 0) as usize)];
         let metadata = &mut metadata[..metadata_length(heap.len())];
         let opened = reference::open(heap, metadata, word(header, 4), word(header, 8));
         writeln!(out, "open {} {}", opened.number, opened.value)?;
-        let requests = take(&mut input, 16 * REQUESTS.min(word(header, 12) as usize));
+        let source = take(&mut input, SOURCE.min(word(header, 12) as usize));
+        let requests = take(&mut input, 16 * REQUESTS.min(word(header, 16) as usize));
         for (i, request) in requests.chunks(16).enumerate() {
-            let answer = reference::serve(heap, metadata, request, &[], &[]);
+            let answer = reference::serve(heap, metadata, request, source, &[]);
             writeln!(out, "{} {} {}", i + 1, answer.number, answer.value)?;
         }
+        writeln!(out, "heap {}", digest(heap))?;
     }
     out.flush()
 }

@@ -4,7 +4,7 @@
 //! Arguments: --calls N (default 1,000,000), --seed N (default: from the clock),
 //! --progress (a line on standard error at each twentieth of the calls).
 
-use poheldu_tests::compare::{Lent, Tester, Twin, READ_KINDS};
+use poheldu_tests::compare::{Lent, Tester, Twin, READ_KINDS, STRING_KINDS};
 use poheldu_tests::inputs::{self, Shape, CLASSES, STUCK_W, STUCK_Z};
 use poheldu_tests::random::Random;
 use poheldu_tests::reference::{Answer, Part};
@@ -126,6 +126,9 @@ fn report(tester: &Tester) {
             tester.read_calls[at], tester.read_requests[at]
         );
     }
+    for (at, kind) in STRING_KINDS.iter().enumerate() {
+        println!("strings {kind}: {}", tester.strings[at]);
+    }
     println!(
         "malformed, operation 7 and a count for operation 4: {:?}",
         tester.malformed
@@ -141,7 +144,7 @@ fn report(tester: &Tester) {
     );
 }
 
-/// Every refusal number, operation, walk, NULL, kind of read and size at an edge has to occur.
+/// Every refusal number, operation, walk, NULL, kind of read and of string, and size at an edge has to occur.
 fn require_coverage(tester: &Tester) {
     let seen = [
         &tester.counts[..],
@@ -151,6 +154,7 @@ fn require_coverage(tester: &Tester) {
         &tester.read_requests,
         &tester.malformed,
         &tester.edge_sizes,
+        &tester.strings,
         &[tester.walks, tester.wraps],
     ];
     if seen.concat().contains(&0) {
@@ -226,6 +230,7 @@ fn document_cases(tester: &mut Tester) {
     eight_lines(tester);
     sizes_at_the_edge(tester);
     walk(tester);
+    strings(tester);
     reads(tester);
     refused_reads(tester);
     for (blocks, number, mask) in [
@@ -295,6 +300,33 @@ fn walk(tester: &mut Tester) {
     for value in [20_352, 16_384, 16_512] {
         let answer = session.run(tester, ALLOCATE, 128);
         expect(answer == Answer { number: 0, value }, "the walk");
+    }
+}
+
+/// An object of 8 bytes at 640: strings that fit it, just fit it and do not.
+/// Those that do not are closed; copies of another kind never are.
+fn strings(tester: &mut Tester) {
+    for (operation, count, offset, source, value, bytes) in [
+        (COPY_STRING, 0, 640, &b"Valentina"[..], 8, b"Valenti\0?"),
+        (COPY_STRING, 0, 640, b"Bertrand\0", 8, b"Bertran\0?"),
+        (COPY_STRING, 0, 640, b"Bertrand", 8, b"Bertrand?"),
+        (COPY_STRING, 0, 640, b"Bertran\0", 8, b"Bertran\0?"),
+        (COPY_STRING, 0, 640, b"Anna\0Bertrand", 5, b"Anna\0????"),
+        (COPY_STRING, 0, 643, b"Norbert", 5, b"???Norb\0?"),
+        (COPY_STRING, 0, 643, b"Clara", 5, b"???Clara?"),
+        (COPY_STRING, 0, 647, b"Jo", 1, b"???????\0?"),
+        (COPY_STRING, 0, 648, b"Jo", 0, b"?????????"),
+        (COPY_BYTES, 0, 640, b"Valentina", 8, b"Valentin?"),
+        (COPY_PADDED, 9, 640, b"Valentina", 8, b"Valentin?"),
+    ] {
+        let shape = Shape { region: 4_096 };
+        let mut session = Session::new(shape, &vec![b'?'; shape.heap_len()], 16);
+        session.open(tester, 1, 1);
+        session.run(tester, ALLOCATE, 5);
+        let request = inputs::request(operation, offset, count);
+        let answer = session.serve(tester, &request, source, PAGE);
+        expect(answer == Answer { number: 0, value }, "a clipped copy");
+        expect(session.heap.bytes()[640..649] == *bytes, "a copy's end");
     }
 }
 

@@ -49,7 +49,10 @@ fn named(word: &str, at: u32) -> Option<([u8; 16], usize)> {
         "copy-0" => (request(3, at, 0), 0),
         "copy-64" => (request(3, at, 0), 64),
         "copy-256" => (request(3, at, 0), 256),
+        "string-20" => (request(4, at, 0), 20),
+        "string-40" => (request(4, at, 0), 40),
         "string-256" => (request(4, at, 0), 256),
+        "string-257" => (request(4, at, 0), 257),
         "read-8" => (request(6, at, 8), 0),
         "read-256" => (request(6, at, 256), 0),
         _ => return None,
@@ -78,7 +81,7 @@ fn main() -> ExitCode {
         black_box(read(&heap, &metadata, at, count, &[]));
     } else if let Some((bytes, length)) = named(word, at) {
         let serve = if ours { capi::serve } else { second_serve };
-        let (request, source) = black_box((&bytes, &[65; 256][..length]));
+        let (request, source) = black_box((&bytes, &[65; 257][..length]));
         black_box(serve(&mut heap, &mut metadata, request, source, &[]));
     } else {
         eprintln!("usage: instructions ours|second REQUEST");

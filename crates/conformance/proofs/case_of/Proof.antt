@@ -24,20 +24,24 @@ get-requires c κs = search needs
 get-requires-2 : tie.Need-get-requires-2
 get-requires-2 c κs = search needs
 
-mul-t8 : tie.Need-mul-t8
-mul-t8 c = search needs
+word-up-to-requires-3 : tie.Need-word-up-to-requires-3
+word-up-to-requires-3 c κs = search needs
+
+mul-t9 : tie.Need-mul-t9
+mul-t9 c = search needs
 
 returns : tie.Need-returns
 returns c =
-    let of = c .before .before .before in
+    let of = c .before .before .before .before in
     let count = of .before .word-up-to2 in
     let heap = of .before .before .word-up-to in
-    let least = rw (of .of .ensures, heap .ensures) at (c .before .before .least .ensures) in (
+    let least = rw (of .of .ensures, heap .ensures) at (c .before .before .before .least .ensures) in (
       λ i. record {
         heap = heap .ensures i;
         metadata = least i;
-        z = c .before .get .ensures i;
-        w = c .get2 .ensures i;
+        z = c .before .before .get .ensures i;
+        w = c .before .get2 .ensures i;
+        source = c .word-up-to3 .ensures i;
         requests = requestSize * count .ensures i;
       },
       omega arith,
@@ -53,5 +57,6 @@ case-of-spec =
     least-requires
     get-requires
     get-requires-2
-    mul-t8
+    word-up-to-requires-3
+    mul-t9
     returns)

@@ -6,23 +6,24 @@ use mathlib.Core.Path.{_≡_, _∙_}
 use mathlib.Core.List.{List}
 use lib.ListN.{length, length-append}
 use Rattle.request.specs.Parse.{requestSize}
-use Rattle.conformance.specs.Case.{heapRoom, metadataRoom, requestsRoom}
+use Rattle.conformance.specs.Case.{heapRoom, metadataRoom, sourceRoom, requestsRoom}
 use Rattle.conformance.proofs.main.Statement.{statement}
 use Rattle.conformance.proofs.main.Tie as tie
 
-record Kept (heap metadata header requests out : List ℕ) : Type 0 where
+record Kept (heap metadata header source requests out : List ℕ) : Type 0 where
   heap-length : length heap ≡ heapRoom
   metadata-length : length metadata ≡ metadataRoom
-  header-length : length header ≡ 16
+  header-length : length header ≡ 20
+  source-length : length source ≡ sourceRoom
   requests-length : length requests ≡ requestSize * requestsRoom
   out-length : length out ≡ 65536
 
 abbrev Inv-loop : tie.InvT-loop
-Inv-loop heap₀ metadata₀ header₀ requests₀ out₀ cases₀ t14 heap metadata header requests out cases =
-    Kept heap metadata header requests out
+Inv-loop heap₀ metadata₀ header₀ source₀ requests₀ out₀ cases₀ t17 heap metadata header source requests out cases =
+    Kept heap metadata header source requests out
 
 abbrev μ-loop : tie.MeasureT-loop
-μ-loop heap₀ metadata₀ header₀ requests₀ out₀ cases₀ t14 heap metadata header requests out cases =
+μ-loop heap₀ metadata₀ header₀ source₀ requests₀ out₀ cases₀ t17 heap metadata header source requests out cases =
     2 ^ 32 - cases
 
 large-buffer-requires : tie.Need-large-buffer-requires Inv-loop μ-loop
@@ -49,14 +50,26 @@ case-of-requires c κs = omega arith
 sub-read-full : tie.Need-sub-read-full Inv-loop μ-loop
 sub-read-full c = omega arith
 
+part-source-start : tie.Need-part-source-start Inv-loop μ-loop
+part-source-start c = omega arith
+
+part-source-end : tie.Need-part-source-end Inv-loop μ-loop
+part-source-end c = omega arith
+
+read-full-requires-2 : tie.Need-read-full-requires-2 Inv-loop μ-loop
+read-full-requires-2 c κs = tt
+
+sub-read-full-2 : tie.Need-sub-read-full-2 Inv-loop μ-loop
+sub-read-full-2 c = omega arith
+
 part-requests-start : tie.Need-part-requests-start Inv-loop μ-loop
 part-requests-start c = omega arith
 
 part-requests-end : tie.Need-part-requests-end Inv-loop μ-loop
 part-requests-end c = omega arith
 
-read-full-requires-2 : tie.Need-read-full-requires-2 Inv-loop μ-loop
-read-full-requires-2 c κs = tt
+read-full-requires-3 : tie.Need-read-full-requires-3 Inv-loop μ-loop
+read-full-requires-3 c κs = tt
 
 sub-run : tie.Need-sub-run Inv-loop μ-loop
 sub-run c = omega arith
@@ -85,6 +98,15 @@ part-run-start c = omega arith
 part-run-end : tie.Need-part-run-end Inv-loop μ-loop
 part-run-end c = simp length-append (omega arith)
 
+sub-run-4 : tie.Need-sub-run-4 Inv-loop μ-loop
+sub-run-4 c = omega arith
+
+part-run-start-2 : tie.Need-part-run-start-2 Inv-loop μ-loop
+part-run-start-2 c = omega arith
+
+part-run-end-2 : tie.Need-part-run-end-2 Inv-loop μ-loop
+part-run-end-2 c = simp length-append (omega arith)
+
 slice-aggregate-run : tie.Need-slice-aggregate-run Inv-loop μ-loop
 slice-aggregate-run c = omega arith
 
@@ -112,32 +134,61 @@ print-requires c κs = tt
 returns-2 : tie.Need-returns-2 Inv-loop μ-loop
 returns-2 c = tt
 
+sub-digest : tie.Need-sub-digest Inv-loop μ-loop
+sub-digest c = omega arith
+
+part-digest-start : tie.Need-part-digest-start Inv-loop μ-loop
+part-digest-start c = omega arith
+
+part-digest-end : tie.Need-part-digest-end Inv-loop μ-loop
+part-digest-end c =
+    let back = c .before .before .before .before .before .before .before .before .before in
+    let ran = back .before in
+    let filled = ran .before .before .before .before .before .before .before .before in
+    let cased = filled .before .before .before .before .before .before in
+    let l = cased .before .before .before .before .before .before .before .loop in
+    let size = same-len-mid 0 (cased .case-of .result .heap - 0) (l .heap) (ran .run .last .0) (back .heap2 .given) in
+    omega (arith, size)
+
+digest-requires : tie.Need-digest-requires Inv-loop μ-loop
+digest-requires c κs = tt
+
+print-heap-requires : tie.Need-print-heap-requires Inv-loop μ-loop
+print-heap-requires c κs = tt
+
 add-cases : tie.Need-add-cases Inv-loop μ-loop
 add-cases c =
-    let ran = c .before .before .before .before .before .before .before .before .before in
-    omega (arith, ran .before .before .before .before .before .before .before .before .before)
+    let printed = c .before .before .before .before .before .before .before .before .before in
+    let ran = printed .before .before .before .before in
+    let filled = ran .before .before .before .before .before .before .before .before in
+    let cased = filled .before .before .before .before .before .before in
+    omega (arith, cased .before .before .before .before .before .before .loop-test .taken)
 
 loop-less : tie.Need-loop-less Inv-loop μ-loop
 loop-less c =
-    let ran = c .before .before .before .before .before .before .before .before .before in
-    omega (arith, ran .before .before .before .before .before .before .before .before .before)
+    let printed = c .before .before .before .before .before .before .before .before .before in
+    let ran = printed .before .before .before .before in
+    let filled = ran .before .before .before .before .before .before .before .before in
+    let cased = filled .before .before .before .before .before .before in
+    omega (arith, cased .before .before .before .before .before .before .loop-test .taken)
 
 loop-again : tie.Need-loop-again Inv-loop μ-loop
 loop-again c =
-    let ran = c .before .before .before .before .before .before .before .before .before in
-    let back = c .before .before .before .before .before .before .before in
-    let filled = ran .before .before .before .before .before .before in
-    let cased = filled .before .before .before in
-    let read = filled .before .read-full2 in
+    let printed = c .before .before .before .before .before .before .before .before .before in
+    let ran = printed .before .before .before .before in
+    let filled = ran .before .before .before .before .before .before .before .before in
+    let lent = filled .before .before .before in
+    let cased = lent .before .before .before in
     let case = cased .case-of .result in
     let l = cased .before .before .before .before .before .before .before .loop in
     record {
-      heap-length = same-len-mid 0 (case .heap - 0) (l .heap) (ran .run .last .0) (back .before .heap2 .given) ∙ l .inv .heap-length;
+      heap-length = same-len-mid 0 (case .heap - 0) (l .heap) (ran .run .last .0) (printed .before .before .before .heap2 .given) ∙ l .inv .heap-length;
       metadata-length =
-          same-len-mid 0 (case .metadata - 0) (l .metadata) (ran .run .last .1 .0) (back .metadata2 .given) ∙ l .inv .metadata-length;
+          same-len-mid 0 (case .metadata - 0) (l .metadata) (ran .run .last .1 .0) (printed .before .before .metadata2 .given) ∙ l .inv .metadata-length;
       header-length = omega (arith, ran);
+      source-length = same-len-mid 0 (case .source - 0) (l .source) (lent .before .read-full2 .last .1 .0) (lent .source2 .given) ∙ l .inv .source-length;
       requests-length =
-          same-len-mid 0 (case .requests - 0) (l .requests) (read .last .1 .0) (filled .requests2 .given) ∙ l .inv .requests-length;
+          same-len-mid 0 (case .requests - 0) (l .requests) (filled .before .read-full3 .last .1 .0) (filled .requests2 .given) ∙ l .inv .requests-length;
       out-length = omega (arith, ran);
     }
 
@@ -158,9 +209,13 @@ main-spec =
     slice-aggregate-case-of
     case-of-requires
     sub-read-full
+    part-source-start
+    part-source-end
+    read-full-requires-2
+    sub-read-full-2
     part-requests-start
     part-requests-end
-    read-full-requires-2
+    read-full-requires-3
     sub-run
     part-heap-start
     part-heap-end
@@ -170,6 +225,9 @@ main-spec =
     sub-run-3
     part-run-start
     part-run-end
+    sub-run-4
+    part-run-start-2
+    part-run-end-2
     slice-aggregate-run
     run-requires
     print-opening-requires
@@ -179,6 +237,11 @@ main-spec =
     slice-aggregate-print
     print-requires
     returns-2
+    sub-digest
+    part-digest-start
+    part-digest-end
+    digest-requires
+    print-heap-requires
     add-cases
     loop-less
     loop-again

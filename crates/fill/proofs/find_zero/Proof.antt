@@ -1,81 +1,74 @@
--- `fill::find_zero` meets its contract. The loop's invariant: no byte before `at` is zero.
-use Prim.Native.Nat.{min, zero-le, _≤_, _+_, _-_, _<_}
-use mathlib.Core.Path.{_≡_, _∙_}
+-- `fill::find_zero` meets its contract: what was skipped has no zero byte, and the first is in the next block or the rest.
+use Prim.Native.Nat.{ℕ, _+_, _≤_}
+use mathlib.Core.Path.{_∙_}
 use native.Mathlib.Omega.{arith}
 use borrow.Author.Needs.{needs}
 use Rattle.bytes.specs.Bytes.{indexOf}
-use Rattle.fill.proofs.Index.{found-from, block-has, block-none}
+use Rattle.fill.proofs.Index.{found-from, before-end, end-near}
 use Rattle.fill.proofs.find_zero.Statement.{statement}
 use Rattle.fill.proofs.find_zero.Tie as tie
 
-abbrev Inv-loop : tie.InvT-loop
-Inv-loop source count at₀ at = (at ≤ count) × (at ≤ indexOf 0 source)
+-- the bytes of a block, as src/lib.rt has them
+abbrev middle : ℕ
+middle = 32
 
-abbrev μ-loop : tie.MeasureT-loop
-μ-loop source count at₀ at = count - at
+abbrev short : ℕ
+short = 8
 
-loop-holds : tie.Need-loop-holds Inv-loop μ-loop
-loop-holds c = (zero-le, zero-le)
+skip-requires : tie.Need-skip-requires
+skip-requires c κs = search needs
 
-sub-loop : tie.Need-sub-loop Inv-loop μ-loop
-sub-loop c = omega arith
+skip-requires-2 : tie.Need-skip-requires-2
+skip-requires-2 c κs = search needs
 
-add-end : tie.Need-add-end Inv-loop μ-loop
-add-end c = omega arith
+sub-if1 : tie.Need-sub-if1
+sub-if1 c = search needs
 
-sub-has-zero : tie.Need-sub-has-zero Inv-loop μ-loop
-sub-has-zero c = omega arith
+add-find : tie.Need-add-find
+add-find c = search needs
 
-part-has-zero-start : tie.Need-part-has-zero-start Inv-loop μ-loop
-part-has-zero-start c = omega arith
+find-requires : tie.Need-find-requires
+find-requires c κs = search needs
 
-part-has-zero-end : tie.Need-part-has-zero-end Inv-loop μ-loop
-part-has-zero-end c = omega arith
-
-has-zero-requires : tie.Need-has-zero-requires Inv-loop μ-loop
-has-zero-requires c κs = search needs
-
-find-requires : tie.Need-find-requires Inv-loop μ-loop
-find-requires c κs = (omega arith, omega arith)
-
-returns : tie.Need-returns Inv-loop μ-loop
+returns : tie.Need-returns
 returns c =
-    let loop = c .before .before .before .before .before in
-    let s = loop .before .before .args .source .now in
-    let has : indexOf 0 s < loop .loop .at + 32 = block-has s (loop .loop .at) (loop .loop .inv .1) 32 (omega arith) (c .before .before .has-zero .ensures) (c .before .if1 .taken) in
-    let found : c .find .result ≡ min (loop .loop .at + 32) (indexOf 0 s) = found-from s (loop .loop .at) (loop .loop .inv .1) (loop .loop .at + 32) (omega arith) (c .find .ensures .0) in
-    found ∙ omega arith
+    let near = c .before .before .skip2 in
+    let a = c .before .before .before .before .before .args in
+    let s = a .source .now in
+    let within = before-end (a .count) (indexOf 0 s) _ middle (near .ensures) in
+    let whole : near .result + middle ≤ a .count = omega (arith, within, c .before .if1 .taken) in
+    found-from s (near .result) (within .1) (near .result + middle) (omega arith) (c .find .ensures .0)
+    ∙ end-near (a .count) (indexOf 0 s) _ middle (near .ensures) (omega arith) whole
 
-loop-less : tie.Need-loop-less Inv-loop μ-loop
-loop-less c = omega arith
+skip-requires-3 : tie.Need-skip-requires-3
+skip-requires-3 c κs =
+    let a = c .before .before .before .before .args in
+    let within = before-end (a .count) (indexOf 0 (a .source .now)) _ middle (c .before .skip2 .ensures) in
+    (c .before .before .before .before .pre, omega (arith, within), omega arith)
 
-loop-again : tie.Need-loop-again Inv-loop μ-loop
-loop-again c =
-    let loop = c .before .before .before .before in
-    (omega arith, block-none _ _ (loop .loop .inv .1) 32 (omega arith) (c .before .has-zero .ensures) (c .if1 .left))
+find-requires-2 : tie.Need-find-requires-2
+find-requires-2 c κs =
+    let a = c .before .before .before .before .before .args in
+    (before-end (a .count) (indexOf 0 (a .source .now)) _ short (c .skip3 .ensures) .0, c .before .before .before .before .before .pre)
 
-find-requires-2 : tie.Need-find-requires-2 Inv-loop μ-loop
-find-requires-2 c κs = (omega arith, omega arith)
-
-returns-2 : tie.Need-returns-2 Inv-loop μ-loop
-returns-2 c = found-from _ _ (c .before .before .loop .inv .1) _ (c .before .before .loop .inv .0) (c .find2 .ensures .0)
+returns-2 : tie.Need-returns-2
+returns-2 c =
+    let last = c .before .skip3 in
+    let a = c .before .before .before .before .before .before .args in
+    let s = a .source .now in
+    let within = before-end (a .count) (indexOf 0 s) _ short (last .ensures) in
+    found-from s (last .result) (within .1) (a .count) (within .0) (c .find2 .ensures .0)
 
 pub find-zero-spec : {M : Type 1} → statement M
 find-zero-spec =
     tie.close
     (tie.spec
-    Inv-loop
-    μ-loop
-    loop-holds
-    sub-loop
-    add-end
-    sub-has-zero
-    part-has-zero-start
-    part-has-zero-end
-    has-zero-requires
+    skip-requires
+    skip-requires-2
+    sub-if1
+    add-find
     find-requires
     returns
-    loop-less
-    loop-again
+    skip-requires-3
     find-requires-2
     returns-2)

@@ -1,6 +1,7 @@
--- `fill::write_string` meets its contract: the part through the zero byte that was found, or the source.
+-- `fill::write_string` meets its contract: the part through the zero byte that was found, or the source, clipped.
 use borrow.Author.Needs.{needs}
-use Rattle.fill.proofs.Contents.{string-part, string-whole}
+use lib.ListN.{length}
+use Rattle.fill.proofs.Contents.{string-part, string-rest}
 use Rattle.fill.proofs.write_string.Statement.{statement}
 use Rattle.fill.proofs.write_string.Tie as tie
 
@@ -32,10 +33,11 @@ returns : tie.Need-returns
 returns c =
     let found = c .before .before .before .before .before .before in
     let a = found .before .before .before .before .args in
-    rw (← string-part _ (a .target .now) _ (found .find-zero .ensures) (c .before .before .before .before .before .if1 .taken)) (c .before .before .write .ensures)
+    let text = string-part (a .source .now) (length (a .target .now)) (found .before .least .ensures) (found .find-zero .ensures) (c .before .before .before .before .before .if1 .taken) in
+    rw (← text) (c .before .before .write .ensures)
 
-write-requires-2 : tie.Need-write-requires-2
-write-requires-2 c κs = search needs
+write-clipped-requires : tie.Need-write-clipped-requires
+write-clipped-requires c κs = search needs
 
 same-length-2 : tie.Need-same-length-2
 same-length-2 c = search needs
@@ -44,7 +46,8 @@ returns-2 : tie.Need-returns-2
 returns-2 c =
     let found = c .before .before .before .before .before in
     let a = found .before .before .before .before .args in
-    rw (← string-whole _ (a .target .now) _ (found .find-zero .ensures) (found .before .least .ensures) (c .before .before .before .before .if1 .left)) (c .before .before .write2 .ensures)
+    let text = string-rest (a .source .now) (length (a .target .now)) (found .before .least .ensures) (found .find-zero .ensures) (c .before .before .before .before .if1 .left) in
+    rw (← text) (c .before .before .write-clipped .ensures)
 
 pub write-string-spec : {M : Type 1} → statement M
 write-string-spec =
@@ -59,6 +62,6 @@ write-string-spec =
     write-requires
     same-length
     returns
-    write-requires-2
+    write-clipped-requires
     same-length-2
     returns-2)

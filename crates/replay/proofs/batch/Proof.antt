@@ -10,12 +10,12 @@ use Rattle.replay.proofs.batch.Statement.{statement}
 use Rattle.replay.proofs.batch.Tie as tie
 
 abbrev Inv-loop : tie.InvT-loop
-Inv-loop heap₀ metadata₀ input number out₀ left₀ next₀ at₀ written₀ heap metadata out left next at written =
-    Replayed (record { heap = heap₀; metadata = metadata₀ }) number input out₀
+Inv-loop heap₀ metadata₀ input source number out₀ left₀ next₀ at₀ written₀ heap metadata out left next at written =
+    Replayed source (record { heap = heap₀; metadata = metadata₀ }) number input out₀
     (record { heap = heap; metadata = metadata }) out left next at written
 
 abbrev μ-loop : tie.MeasureT-loop
-μ-loop heap₀ metadata₀ input number out₀ left₀ next₀ at₀ written₀ heap metadata out left next at written =
+μ-loop heap₀ metadata₀ input source number out₀ left₀ next₀ at₀ written₀ heap metadata out left next at written =
     left
 
 accepted-requires : tie.Need-accepted-requires Inv-loop μ-loop

@@ -16,9 +16,6 @@ returns c = rw (lt-leb lineRoom _ (c .if1 .taken)) ((refl, refl, refl), (zero-le
 slice-aggregate-serve : tie.Need-slice-aggregate-serve
 slice-aggregate-serve c = search needs
 
-slice-aggregate-serve-2 : tie.Need-slice-aggregate-serve-2
-slice-aggregate-serve-2 c = search needs
-
 serve-requires : tie.Need-serve-requires
 serve-requires c κs = search needs
 
@@ -44,7 +41,7 @@ returns-2 : tie.Need-returns-2
 returns-2 c =
     let shown = c .before .before .before .before in
     let served = shown .before .before .before .before .before .before in
-    let tested = served .before .before .before .before .before in
+    let tested = served .before .before .before .before in
     let e = served .serve .ensures in
     let number = shown .number .ensures ∙ ap (λ (r : Reply). r .number) (e .0) in
     let value = c .before .before .before .value .ensures ∙ ap (λ (r : Reply). r .value) (e .0) in
@@ -60,7 +57,6 @@ step-spec =
     (tie.spec
     returns
     slice-aggregate-serve
-    slice-aggregate-serve-2
     serve-requires
     number-requires
     value-requires
