@@ -92,9 +92,17 @@ static uint32_t any_count(choices *c)
     }
 }
 
-/* Empty, longer than any object, about as long as a slot, or short. */
-static size_t source_length(choices *c)
+/* Bytes from an offset to the end of its slot; past the regions' end those of the longest. */
+static uint32_t left_in_slot(const run *r, uint32_t offset)
 {
+    const uint32_t class = offset / (uint32_t)r->region, size = slot_size(class < CLASSES ? class : CLASSES - 1);
+    return size - offset % size;
+}
+
+/* Empty, longer than any object, about as long as what is left of the slot or as any slot, or short. */
+static size_t source_length(run *r, uint32_t offset)
+{
+    choices *const c = &r->input;
     switch (below(c, 8)) {
     case 0:
         return 0;
@@ -102,6 +110,8 @@ static size_t source_length(choices *c)
         return LARGEST_SIZE + below(c, LONGEST_SOURCE - LARGEST_SIZE + 1);
     case 2:
     case 3:
+        return around(c, left_in_slot(r, offset));
+    case 4:
         return around(c, slot_size(below(c, CLASSES)));
     default:
         return below(c, 64);
@@ -109,10 +119,10 @@ static size_t source_length(choices *c)
 }
 
 /* Without a zero byte, or with one at its front, its end or anywhere, or with several. */
-static void make_source(run *r)
+static void make_source(run *r, uint32_t offset)
 {
     choices *const c = &r->input;
-    twin_lend(r->source, source_length(c));
+    twin_lend(r->source, source_length(r, offset));
     twin_fill(r->source, next_byte(c));
     const size_t len = r->source->len;
     const uint32_t kind = below(c, 6);
@@ -146,9 +156,9 @@ static void make_page(run *r)
 /* About as many bytes as the slot has from an offset on, or as the page has, or any number. */
 static uint32_t wanted_count(run *r, uint32_t offset)
 {
-    const uint32_t class = offset / (uint32_t)r->region, kind = below(&r->input, 4);
-    if (kind == 0 && class < CLASSES)
-        return (uint32_t)around(&r->input, slot_size(class) - offset % slot_size(class));
+    const uint32_t kind = below(&r->input, 4);
+    if (kind == 0)
+        return (uint32_t)around(&r->input, left_in_slot(r, offset));
     if (kind == 1)
         return (uint32_t)around(&r->input, r->page->len);
     return any_count(&r->input);
@@ -197,7 +207,7 @@ void serve_any(run *r)
         make_page(r);
         count = wanted_count(r, argument);
     } else if (operation >= COPY_BYTES) {
-        make_source(r);
+        make_source(r, argument);
         count = operation == COPY_PADDED ? any_count(&r->input) : 0;
     }
     pack(r->request, operation, argument, count);

@@ -28,14 +28,14 @@ fn copy(name: &str, operation: u32, size: usize) {
         [
             &mut || {
                 let Heap { bytes, metadata } = &mut *heap.borrow_mut();
-                repeat(CALLS, &source[..], |source| {
+                repeat(CALLS, &&source[..], |&source| {
                     let request = black_box(&request);
                     black_box(capi::serve(bytes, metadata, request, source, &[]));
                 })
             },
             &mut || {
                 let target = &mut heap.borrow_mut().bytes[at as usize..][..size];
-                repeat(CALLS, &source[..], |source| {
+                repeat(CALLS, &&source[..], |&source| {
                     let (to, from) = (target.as_mut_ptr().cast(), source.as_ptr().cast());
                     // SAFETY: the target is as long as the source, and lies elsewhere.
                     black_box(unsafe { move_bytes(to, from, source.len()) });
@@ -43,7 +43,7 @@ fn copy(name: &str, operation: u32, size: usize) {
             },
             &mut || {
                 let Heap { bytes, metadata } = &mut *heap.borrow_mut();
-                repeat(CALLS, &source[..], |source| {
+                repeat(CALLS, &&source[..], |&source| {
                     let request = black_box(&request);
                     black_box(reference::serve(bytes, metadata, request, source, &[]));
                 })
@@ -61,7 +61,7 @@ pub fn table() {
         copy(&format!("bytes, {}", figure(size)), 3, size);
     }
     for (name, operation) in [("string", 4), ("padded", 5)] {
-        for size in [64, 1024, 16384] {
+        for size in [20, 64, 256, 1024, 4096, 16384] {
             copy(&format!("{name}, {}", figure(size)), operation, size);
         }
     }

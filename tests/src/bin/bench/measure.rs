@@ -12,8 +12,9 @@ pub fn time(calls: usize, run: impl FnOnce()) -> f64 {
     start.elapsed().as_nanos() as f64 / calls as f64
 }
 
-/// Nanoseconds of one call, by `calls` of them with an input that the compiler does not know.
-pub fn repeat<T: ?Sized>(calls: usize, input: &T, mut call: impl FnMut(&T)) -> f64 {
+/// Nanoseconds of one call, by `calls` of them with an input that the compiler does not know. A slice is an input by
+/// reference: its two words would else go through memory for each call, and the call wait for them.
+pub fn repeat<T>(calls: usize, input: &T, mut call: impl FnMut(&T)) -> f64 {
     time(calls, || {
         for _ in 0..calls {
             call(black_box(input));

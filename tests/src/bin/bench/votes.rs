@@ -63,22 +63,22 @@ fn vote(name: &str, blocks: &[u8], replicas: usize, block_len: usize) {
         name,
         [
             &mut || {
-                repeat(CALLS, blocks, |blocks| {
+                repeat(CALLS, &blocks, |&blocks| {
                     black_box(capi::vote(blocks, replicas, block_len, &mut ours));
                 })
             },
             &mut || {
-                repeat(CALLS, blocks, |blocks| {
+                repeat(CALLS, &blocks, |&blocks| {
                     black_box(reference::vote(blocks, replicas, block_len, &mut theirs));
                 })
             },
             &mut || {
-                repeat(CALLS, blocks, |blocks| {
+                repeat(CALLS, &blocks, |&blocks| {
                     black_box(deciding_pairs(compare, blocks, block_len));
                 })
             },
             &mut || {
-                repeat(CALLS, blocks, |blocks| {
+                repeat(CALLS, &blocks, |&blocks| {
                     black_box(all_pairs(compare, blocks, block_len));
                 })
             },
@@ -95,12 +95,12 @@ pub fn refused_row() {
         "vote refused, 2 replicas",
         [
             &mut || {
-                repeat(512, &blocks[..], |blocks| {
+                repeat(512, &&blocks[..], |&blocks| {
                     black_box(capi::vote(blocks, 2, 256, &mut ours));
                 })
             },
             &mut || {
-                repeat(512, &blocks[..], |blocks| {
+                repeat(512, &&blocks[..], |&blocks| {
                     black_box(reference::vote(blocks, 2, 256, &mut theirs));
                 })
             },
