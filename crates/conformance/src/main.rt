@@ -4,8 +4,8 @@
 // A case is a header of five little-endian words, the heap's length, z, w, the length of a source and a number of
 // requests, and then the source, which all requests are lent, and the requests, of sixteen bytes each. A heap length
 // above 98,304 counts as 98,304, a source's above 8,192 as 8,192, and a number of requests above 1,024 as 1,024. The
-// heap's bytes stay as the case before left them, and so does the metadata where an opening is refused. A header that is
-// cut short ends the run.
+// heap's bytes stay as the case before left them, and so does the metadata where an opening is refused. A header that
+// is cut short ends the run.
 use geometry::Plan;
 use libc::STDIN_FILENO;
 use libc::STDOUT_FILENO;

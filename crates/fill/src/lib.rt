@@ -42,8 +42,8 @@ fn has_zero(source: &[u8]) -> bool
     found
 }
 
-// Passes over whole blocks without a zero byte, from a place that none comes before. The first that is not passed over has
-// one, or fewer of the first `count` bytes are left than make a block.
+// Passes over whole blocks without a zero byte, from a place that none comes before. The first that is not passed over
+// has one, or fewer of the first `count` bytes are left than make a block.
 fn skip(source: &[u8], from: usize, count: usize, block: usize) -> usize
     requires { ⌜ (count ≤ length (now source)) × (from ≤ min count (indexOf 0 (now source))) × (0 < block) ⌝ }
     ensures { λ r.
@@ -61,8 +61,8 @@ fn skip(source: &[u8], from: usize, count: usize, block: usize) -> usize
     at
 }
 
-// The index of the first zero byte of the first `count`; `count` where there is none. Looking at the bytes of a block one
-// by one is unrolled, since its length is known.
+// The index of the first zero byte of the first `count`; `count` where there is none. A block's length is known, so that
+// the compiler unrolls the search for its byte.
 fn find_zero(source: &[u8], count: usize) -> usize
     requires { ⌜ count ≤ length (now source) ⌝ }
     ensures { λ r. ⌜ r ≡ min count (indexOf 0 (now (source .entry))) ⌝ }

@@ -5,8 +5,8 @@ use mathlib.Core.List.{List, [], _∷_, _++_}
 use lib.ListN.{take, drop, set, replicate}
 use Rattle.geometry.specs.Layout.{layoutOf, header, classOf}
 use Rattle.request.specs.Parse.{requestBytes}
-use Rattle.known_answers.specs.Calls.{Row, row, heapOf, opened, clear, allocate, free, remaining, copyBytes, copyString}
-use Rattle.known_answers.specs.Calls.{copyPadded, read, answerTo, after, showing, voting}
+use Rattle.known_answers.specs.Calls.{Row, row, heapOf, opened, clear, allocate, free, remaining, copyBytes}
+use Rattle.known_answers.specs.Calls.{copyString, copyPadded, read, answerTo, after, showing, voting}
 use Rattle.known_answers.specs.Table.{copying}
 
 -- ---- regions of 4,096 bytes: class 4 has 32 slots of 128 bytes, and its bitmap is bytes 128 to 131

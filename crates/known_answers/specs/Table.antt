@@ -8,8 +8,8 @@ use Rattle.geometry.specs.Layout.{layoutOf, classOf, metadataLength}
 use Rattle.rules.specs.Open.{setup}
 use Rattle.rules.specs.Serve.{lent}
 use Rattle.rules.specs.Call.{Call, call, opening}
-use Rattle.known_answers.specs.Calls.{Row, row, seeds, numbers, heapOf, allocate, free, copyBytes, copyString, copyPadded}
-use Rattle.known_answers.specs.Calls.{answerTo, after, voting}
+use Rattle.known_answers.specs.Calls.{Row, row, seeds, numbers, heapOf, allocate, free, copyBytes, copyString}
+use Rattle.known_answers.specs.Calls.{copyPadded, answerTo, after, voting}
 
 -- ---- a heap with regions of 4,096 bytes, opened with z = 1 and w = 1
 

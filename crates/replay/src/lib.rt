@@ -98,8 +98,8 @@ pub struct Done {
 }
 
 // Serves every request of the input with one source and an empty page, and writes their lines one after another at the
-// front of the output. Where the output may be too short for the lines, or 64 bits for the numbers, nothing is served or
-// written.
+// front of the output. Where the output may be too short for the lines, or 64 bits for the numbers, nothing is served
+// or written.
 pub fn batch(
     heap: &mut [u8],
     metadata: &mut [u8],
