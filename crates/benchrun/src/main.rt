@@ -31,7 +31,6 @@ fn serve_input() -> u8
             &mut metadata,
             &mut input[0..end],
             got.count == 0,
-            b"",
             number,
             &mut out,
         );

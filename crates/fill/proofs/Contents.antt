@@ -13,7 +13,7 @@ use Rattle.fill.proofs.Index.{index-le}
 use Rattle.request.specs.declared.Kind.the-variants.{String, Padded}
 use Rattle.writing.specs.Overwrite.{overwrite}
 use Rattle.writing.proofs.Fitting.{Put}
-use Rattle.rules.specs.Object.{clipped, writes}
+use Rattle.rules.specs.Object.{stringIn, clipped, writes}
 use Rattle.rules.proofs.Clipping.{clipped-fits, clipped-longer}
 
 -- ---- strings
@@ -48,7 +48,7 @@ module _ (s t : List ℕ) {r : ℕ} {mid : List ℕ} (put : Put t (take (length 
 -- the first zero byte was sought among those that fit
 module _ (s : List ℕ) (room : ℕ) {seen end : ℕ} (fit : seen ≡ min (length s) room) (found : end ≡ min seen (indexOf 0 s)) where
   abbrev text : List ℕ
-  text = take (suc (indexOf 0 s)) s
+  text = stringIn s
 
   -- it is there: the source through it fits
   pub string-part : end < seen → take room (take (end + 1 - 0) s) ≡ writes String s room

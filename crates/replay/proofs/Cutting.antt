@@ -20,7 +20,7 @@ empty [] e = refl
 empty (x ∷ a) e = absurd (omega arith)
 
 -- k whole requests, and j after them
-module _ (source b : List ℕ) (j : ℕ) where
+module _ (b : List ℕ) (j : ℕ) where
   module _ (k : ℕ) (a : List ℕ) (e : length a ≡ requestSize * suc k) where
     first : take requestSize (a ++ b) ≡ take requestSize a
     first = take-append-le requestSize a b (omega arith)
@@ -32,44 +32,44 @@ module _ (source b : List ℕ) (j : ℕ) where
     fewer = rw length-drop (omega arith)
 
   replay-append : (k : ℕ) (a : List ℕ) (s : State) (number : ℕ) → length a ≡ requestSize * k
-      → let x = replay source k s number a in
-      replay source (k + j) s number (a ++ b) ≡ behind (x .text) (replay source j (x .state) (x .next) b)
+      → let x = replay [] k s number a in
+      replay [] (k + j) s number (a ++ b) ≡ behind (x .text) (replay [] j (x .state) (x .next) b)
   unfolding replay
   replay-append zero a s number e = rw (empty a e, zero-add)
   replay-append (suc k) a s number e =
-      let more = replay-append k (drop requestSize a) (stateAfter s (take requestSize a) source) (number + 1) (fewer k a e) in
-      rw (suc-add, first k a e, later k a e, more) (behind-both (lineFor s (take requestSize a) source number) _ _)
+      let more = replay-append k (drop requestSize a) (stateAfter s (take requestSize a) []) (number + 1) (fewer k a e) in
+      rw (suc-add, first k a e, later k a e, more) (behind-both (lineFor s (take requestSize a) [] number) _ _)
 
 -- whole requests, and any bytes after them
-replay-parts : (source : List ℕ) (k : ℕ) (a b : List ℕ) → length a ≡ requestSize * k → (s : State) (number : ℕ)
-    → let x = replayAll source s number a in
-    replayAll source s number (a ++ b) ≡ behind (x .text) (replayAll source (x .state) (x .next) b)
-replay-parts source k a b whole s number =
+replay-parts : (k : ℕ) (a b : List ℕ) → length a ≡ requestSize * k → (s : State) (number : ℕ)
+    → let x = replayAll s number a in
+    replayAll s number (a ++ b) ≡ behind (x .text) (replayAll (x .state) (x .next) b)
+replay-parts k a b whole s number =
     let count : requests a ≡ k = omega arith in
     let counts : requests (a ++ b) ≡ k + requests b = rw length-append (omega arith) in
-    rw (counts, count) (replay-append source b (requests b) k a s number whole)
+    rw (counts, count) (replay-append b (requests b) k a s number whole)
 
 -- a piece after what was kept: what is ready of both, and what is kept with all that comes later
-replay-in : (source : List ℕ) (pieces : List (List ℕ)) (s : State) (number : ℕ) (kept : List ℕ)
-    → replayIn source s number kept pieces ≡ replayAll source s number (kept ++ flatten pieces)
+replay-in : (pieces : List (List ℕ)) (s : State) (number : ℕ) (kept : List ℕ)
+    → replayIn s number kept pieces ≡ replayAll s number (kept ++ flatten pieces)
 unfolding replayIn flatten
-replay-in source [] s number kept = rw append-nil
-replay-in source (piece ∷ more) s number kept =
+replay-in [] s number kept = rw append-nil
+replay-in (piece ∷ more) s number kept =
     let both : List ℕ = kept ++ piece in
     let whole : length (ready false both) ≡ requestSize * (length both / requestSize) = rw length-take (omega arith) in
-    let b : Batch = replayAll source s number (ready false both) in
+    let b : Batch = replayAll s number (ready false both) in
     let cut : kept ++ (piece ++ flatten more) ≡ ready false both ++ (rest false both ++ flatten more) =
     sym (append-assoc kept piece _) ∙ rw (← append-assoc, take-append-drop) in
-    ap (behind (b .text)) (replay-in source more (b .state) (b .next) (rest false both))
-    ∙ sym (ap (replayAll source s number) cut ∙ replay-parts source (length both / requestSize) (ready false both) _ whole s number)
+    ap (behind (b .text)) (replay-in more (b .state) (b .next) (rest false both))
+    ∙ sym (ap (replayAll s number) cut ∙ replay-parts (length both / requestSize) (ready false both) _ whole s number)
 
 -- however an input is cut, its lines and the state after it are those of the whole
-pub however-cut : (source : List ℕ) (pieces : List (List ℕ)) (s : State) (number : ℕ)
-    → replayIn source s number [] pieces ≡ replayAll source s number (flatten pieces)
-however-cut source pieces s number = replay-in source pieces s number []
+pub however-cut : (pieces : List (List ℕ)) (s : State) (number : ℕ)
+    → replayIn s number [] pieces ≡ replayAll s number (flatten pieces)
+however-cut pieces s number = replay-in pieces s number []
 
 -- where there is room for the lines and for their numbers, a batch serves all requests
-pub batch-all : (source : List ℕ) (room number : ℕ) (s : State) (bytes : List ℕ) → requests bytes * lineRoom ≤ room
+pub batch-all : (room number : ℕ) (s : State) (bytes : List ℕ) → requests bytes * lineRoom ≤ room
     → number + requests bytes < 2 ^ 64
-    → batchOf source room s number bytes ≡ replayAll source s number bytes
-batch-all source room number s bytes lines numbers = rw (← accepted-all room number bytes lines numbers)
+    → batchOf [] room s number bytes ≡ replayAll s number bytes
+batch-all room number s bytes lines numbers = rw (← accepted-all room number bytes lines numbers)

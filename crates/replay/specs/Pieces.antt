@@ -18,14 +18,14 @@ ready ended bytes = take (readyLength ended (length bytes)) bytes
 abbrev pub rest : Bool → List ℕ → List ℕ
 rest ended bytes = drop (readyLength ended (length bytes)) bytes
 
--- all requests of some bytes, their lines numbered from a number on
-abbrev pub replayAll : List ℕ → State → ℕ → List ℕ → Batch
-replayAll source s number bytes = replay source (requests bytes) s number bytes
+-- all requests of some bytes, with an empty source, their lines numbered from a number on
+abbrev pub replayAll : State → ℕ → List ℕ → Batch
+replayAll s number bytes = replay [] (requests bytes) s number bytes
 
 -- whole requests are served as their pieces come, what is kept goes before the next piece, and what is left at the end
 -- is served
-unfoldable pub replayIn : List ℕ → State → ℕ → List ℕ → List (List ℕ) → Batch
-replayIn source s number kept [] = replayAll source s number kept
-replayIn source s number kept (piece ∷ more) =
-    let b : Batch = replayAll source s number (ready false (kept ++ piece)) in
-    behind (b .text) (replayIn source (b .state) (b .next) (rest false (kept ++ piece)) more)
+unfoldable pub replayIn : State → ℕ → List ℕ → List (List ℕ) → Batch
+replayIn s number kept [] = replayAll s number kept
+replayIn s number kept (piece ∷ more) =
+    let b : Batch = replayAll s number (ready false (kept ++ piece)) in
+    behind (b .text) (replayIn (b .state) (b .next) (rest false (kept ++ piece)) more)

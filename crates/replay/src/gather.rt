@@ -1,6 +1,7 @@
 // Requests served as their bytes come: those that are whole at once, and the rest when the next bytes are there or the
 // input has ended.
 ghost use mathlib.Core.Path.{_≡_};
+ghost use mathlib.Core.List.{[]};
 ghost use Prim.Native.Nat.{_+_, _<_, _≤_};
 ghost use lib.ListN.{length};
 ghost use Rattle.writing.specs.Overwrite.{overwrite};
@@ -26,21 +27,19 @@ fn ready_len(len: usize, ended: bool) -> usize
     len / REQUEST * REQUEST
 }
 
-// Serves as `batch` does the whole requests of the bytes gathered, or all of them where the input has ended, and moves
-// the rest to the front.
+// Serves as `batch` does with an empty source the whole requests of the bytes gathered, or all of them where the input
+// has ended, and moves the rest to the front.
 pub fn serve(
     heap: &mut [u8],
     metadata: &mut [u8],
     input: &mut [u8],
     ended: bool,
-    source: &[u8],
     number: u64,
     out: &mut [u8],
 ) -> Served
     ensures { λ r.
         let s : State = stateOf (now (heap .entry)) (now (metadata .entry)) in
-        let asked = ready ended (now (input .entry)) in
-        let b : Batch = batchOf (now (source .entry)) (length (now (out .entry))) s number asked in
+        let b : Batch = batchOf [] (length (now (out .entry))) s number (ready ended (now (input .entry))) in
         ⌜ (r .written ≡ length (b .text)) × (r .next ≡ b .next)
         × (now (out .exit) ≡ overwrite (now (out .entry)) 0 (b .text))
         × (stateOf (now (heap .exit)) (now (metadata .exit)) ≡ b .state) ⌝ }
@@ -49,7 +48,7 @@ pub fn serve(
     ensures { λ r. ⌜ (r .written ≤ length (now (out .exit))) × (r .kept < requestSize) ⌝ }
 {
     let end = ready_len(input.len(), ended);
-    let done = crate::batch(heap, metadata, &input[0..end], source, number, out);
+    let done = crate::batch(heap, metadata, &input[0..end], b"", number, out);
     let kept = writing::shift(input, end, REQUEST);
     Served {
         written: done.written,

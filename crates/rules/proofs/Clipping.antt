@@ -20,7 +20,7 @@ use Rattle.answer.specs.Reply.{served}
 use Rattle.writing.specs.Overwrite.{overwrite}
 use Rattle.writing.proofs.Parts.{part-here}
 use Rattle.rules.specs.Outcome.{reply, heapAfter}
-use Rattle.rules.specs.Object.{space, clipped, writes, copy}
+use Rattle.rules.specs.Object.{space, stringIn, clipped, writes, copy}
 
 module _ (room : ℕ) (text : List ℕ) where
   pub clipped-fits : length text ≤ room → clipped room text ≡ text
@@ -52,7 +52,7 @@ bytes-own source room i h = getD-take room source i 0 h
 -- no copy writes more than its room
 pub writes-le : (kind : Kind) (source : List ℕ) (room : ℕ) → length (writes kind source room) ≤ room
 writes-le Bytes source room = rw length-take (omega arith)
-writes-le String source room = omega (arith, clipped-length room (take (suc (indexOf 0 source)) source))
+writes-le String source room = omega (arith, clipped-length room (stringIn source))
 writes-le (Padded count) source room = rw length-take (omega arith)
 
 -- where an element is found, it is
@@ -72,7 +72,7 @@ module _ (s : List ℕ) (room : ℕ) where
   written = writes String s room
 
   abbrev text : List ℕ
-  text = take (suc (indexOf 0 s)) s
+  text = stringIn s
 
   -- a string that has its zero, or is longer than the room, is closed: the last byte written is zero
   pub string-closed : 0 < room → (indexOf 0 s < length s) ⊎ (room < length s) → getD written (length written - 1) 1 ≡ 0
@@ -100,7 +100,7 @@ module _ (s : List ℕ) (room : ℕ) where
 
 -- a string that does not fit, copied into a heap
 module _ (G : Layout) (m h source : List ℕ) (offset : ℕ) (size : length h ≡ heapLength G) (inside : offset < heapLength G)
-    (some : 0 < space G m offset) (long : space G m offset < length (take (suc (indexOf 0 source)) source)) where
+    (some : 0 < space G m offset) (long : space G m offset < length (stringIn source)) where
   abbrev room : ℕ
   room = space G m offset
 
@@ -108,7 +108,7 @@ module _ (G : Layout) (m h source : List ℕ) (offset : ℕ) (size : length h �
   bytes = writes String source room
 
   filled : length bytes ≡ room
-  filled = clipped-length room (take (suc (indexOf 0 source)) source) ∙ omega arith
+  filled = clipped-length room (stringIn source) ∙ omega arith
 
   -- the value is the space, and the object's last byte is zero
   pub copy-closed : let o = copy G m offset String source in

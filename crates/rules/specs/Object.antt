@@ -47,16 +47,20 @@ space G m offset =
 unfoldable pub remaining : Layout → List ℕ → ℕ → Outcome
 remaining G m offset = checked refused (ifPast G offset ∷ []) (told (space G m offset) offset [])
 
+-- the string in a source: through its first zero byte, or to its end
+abbrev pub stringIn : List ℕ → List ℕ
+stringIn source = take (suc (indexOf 0 source)) source
+
 -- a text in a given room: as it is where it fits; of a longer one what fits, with zero for the last byte
 abbrev pub clipped : ℕ → List ℕ → List ℕ
 clipped room text = cond (leb (length text) room) text (set (take room text) (room - 1) 0)
 
 -- what a copy of each kind writes in a given room, from the first byte on (the paper's plain, text and counted copy):
--- the source; the source through its first zero byte, or to its end, closed where it is clipped; the source before its
--- first zero byte or end, and then zeros, count bytes in all
+-- the source; its string, closed where it is clipped; the source before its first zero byte or end, and then zeros,
+-- count bytes in all
 abbrev pub writes : Kind → List ℕ → ℕ → List ℕ
 writes Bytes source room = take room source
-writes String source room = clipped room (take (suc (indexOf 0 source)) source)
+writes String source room = clipped room (stringIn source)
 writes (Padded count) source room = take room (take count (take (indexOf 0 source) source ++ replicate count 0))
 
 unfoldable pub copy : Layout → List ℕ → ℕ → Kind → List ℕ → Outcome

@@ -18,11 +18,11 @@ record Kept (heap metadata input out : List ℕ) (kept turns : ℕ) : Type 0 whe
   some : turns < 2 ^ 64
 
 abbrev Inv-loop : tie.InvT-loop
-Inv-loop heap₀ metadata₀ input₀ out₀ kept₀ number₀ t11 t12 t13 counter₀ heap metadata input out kept number counter =
+Inv-loop heap₀ metadata₀ input₀ out₀ kept₀ number₀ t12 t13 counter₀ heap metadata input out kept number counter =
     Kept heap metadata input out kept counter
 
 abbrev μ-loop : tie.MeasureT-loop
-μ-loop heap₀ metadata₀ input₀ out₀ kept₀ number₀ t11 t12 t13 counter₀ heap metadata input out kept number counter =
+μ-loop heap₀ metadata₀ input₀ out₀ kept₀ number₀ t12 t13 counter₀ heap metadata input out kept number counter =
     2 ^ 64 - counter
 
 slice-aggregate-open : tie.Need-slice-aggregate-open Inv-loop μ-loop
@@ -83,9 +83,6 @@ part-input-end-2 c =
 slice-aggregate-serve-3 : tie.Need-slice-aggregate-serve-3 Inv-loop μ-loop
 slice-aggregate-serve-3 c = omega arith
 
-slice-aggregate-serve-4 : tie.Need-slice-aggregate-serve-4 Inv-loop μ-loop
-slice-aggregate-serve-4 c = omega arith
-
 serve-requires : tie.Need-serve-requires Inv-loop μ-loop
 serve-requires c κs = tt
 
@@ -120,7 +117,7 @@ loop-again : tie.Need-loop-again Inv-loop μ-loop
 loop-again c =
     let b = c .before .before .before .before .before .before .before .before in
     let s = b .before .before .before in
-    let r = s .before .before .before .before .before .before .before .before .before in
+    let r = s .before .before .before .before .before .before .before .before in
     let l = r .before .before .before .before .before .loop in
     let end = l .kept + r .before .read .result .count in
     let read = same-len-mid (l .kept) (16384 - l .kept) (l .input) (r .before .read .last .0) (r .input2 .given) in
@@ -154,7 +151,6 @@ serve-input-spec =
     part-input-start-2
     part-input-end-2
     slice-aggregate-serve-3
-    slice-aggregate-serve-4
     serve-requires
     sub-print
     part-print-start

@@ -192,7 +192,7 @@ fn run(allocator: &Allocator, region: usize) {
 
 pub fn table(region: usize) {
     let title = format!(
-        "A free and an allocation, sizes 1 to 16,384 log-uniform, all classes half full, regions of {} bytes",
+        "A free and an allocation, all classes half full, regions of {} bytes",
         figure(region)
     );
     head(&title, "other allocator", &["other"]);

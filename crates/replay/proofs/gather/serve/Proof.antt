@@ -30,6 +30,9 @@ part-batch-start c = search needs
 part-batch-end : tie.Need-part-batch-end
 part-batch-end c = search needs
 
+slice-aggregate-batch : tie.Need-slice-aggregate-batch
+slice-aggregate-batch c = search needs
+
 batch-requires : tie.Need-batch-requires
 batch-requires c κs = search needs
 
@@ -52,9 +55,9 @@ returns : tie.Need-returns
 returns c =
     let moved = c .before .before in
     let served = moved .before .before .before .before .before .before .before .before in
-    let measured = served .before .before .before .before .before .before in
+    let measured = served .before .before .before .before .before .before .before in
     let end = measured .ready-len in
-    let input = measured .before .before .before .before .before .before .args .input .now in
+    let input = measured .before .before .before .before .before .args .input .now in
     let lines = rw (sub-zero (end .result), end .ensures .0) at (served .batch .ensures) in
     let few = length-drop (end .result) input in
     let whole = all-moved input (end .result) (omega arith) (moved .shift .ensures) in
@@ -69,6 +72,7 @@ serve-spec =
     sub-batch
     part-batch-start
     part-batch-end
+    slice-aggregate-batch
     batch-requires
     shift-requires
     same-length
