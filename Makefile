@@ -5,9 +5,10 @@
 # make fuzz     runs of calls held against the second implementation, for FUZZ_SECONDS (60); wants clang
 # make soak     the differential test for SOAK_CALLS (100000000) calls, from a seed that it prints; SEED=N repeats one
 # make expected writes what benchrun and conformance must print (crates/*/stdout) anew, by the second implementation
+# make table    writes the table of classes (crates/geometry/src/table.rt) anew by its rule, programs/table
 # make bench    ratios against the second implementation, memcpy, memcmp and malloc
 # make instructions  how many instructions a request takes; wants valgrind
-.PHONY: run programs test lib fuzz fuzz-tools soak expected bench instructions
+.PHONY: run programs test lib fuzz fuzz-tools soak expected table bench instructions
 
 FUZZ_SECONDS ?= 60
 FUZZ_SOURCES = $(filter-out tests/fuzz/driver.c,$(wildcard tests/fuzz/*.c))
@@ -58,6 +59,9 @@ expected: lib
 	cd tests && cargo build --release --offline --quiet
 	target/tests/release/expected < crates/benchrun/stdin > crates/benchrun/stdout
 	target/tests/release/conformance < crates/conformance/stdin > crates/conformance/stdout
+
+table:
+	@mkdir -p target && programs/table > target/table.rt && cp target/table.rt crates/geometry/src/table.rt
 
 bench: lib
 	@programs/prove check benchrun

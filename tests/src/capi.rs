@@ -191,3 +191,25 @@ pub fn vote_with(
         )
     }
 }
+
+#[cfg(test)]
+mod tests {
+    use super::*;
+    use crate::inputs::{request, slot_size, Shape, CLASSES};
+
+    #[test]
+    fn every_size_goes_to_the_first_class_that_holds_it() {
+        let shape = Shape { region: 32_768 };
+        let mut heap = vec![0; shape.heap_len()];
+        let mut fresh = vec![0; shape.metadata_len()];
+        open(&heap, &mut fresh, 1, 1);
+        for size in (0..=16_400).chain([65_536, 1 << 31, u32::MAX]) {
+            let mut metadata = fresh.clone();
+            let answer = serve(&mut heap, &mut metadata, &request(0, size, 0), &[], &[]);
+            let class = (0..CLASSES).find(|&class| size as usize <= slot_size(class));
+            let number = if class.is_some() { 0 } else { 5 };
+            let region = (number == 0).then_some(answer.value as usize / shape.region);
+            assert_eq!((answer.number, region), (number, class), "{size} bytes");
+        }
+    }
+}

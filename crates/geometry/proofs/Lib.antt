@@ -1,3 +1,4 @@
 pub mod Geometry
 pub mod Slots
 pub mod Doubling
+pub mod Steps

@@ -16,7 +16,8 @@ use Rattle.rules.specs.Object.{free, space, remaining, copy}
 use Rattle.rules.specs.Read.{read}
 use Rattle.rules.specs.Call.{serving, opening}
 use Rattle.alike.specs.Alike.{alike}
-use Rattle.vote.specs.Decide.{tabulate, digits, leader, count, decide}
+use Rattle.search.specs.Tabulate.{tabulate}
+use Rattle.vote.specs.Decide.{digits, leader, count, decide}
 use Rattle.alike.proofs.Equal.{alike-equal}
 use Rattle.known_answers.specs.Calls.{Row, row, numbers, opened, clear, answerTo, after, placeOf, showing, voting}
 use Rattle.known_answers.specs.Table.{table, start, oneObject, copying, bytesVoted}

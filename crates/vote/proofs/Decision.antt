@@ -12,11 +12,12 @@ use Rattle.vote.specs.declared.elect.Elected.{Elected}
 use Rattle.vote.specs.Groups.{electedOf}
 use lib.Seq.{take-all}
 use Rattle.writing.specs.Overwrite.{overwrite}
-use Rattle.vote.specs.Decide.{blockOf, tabulate, agree, agreements, digits, votes, maskOf}
+use Rattle.search.specs.Tabulate.{tabulate}
+use Rattle.vote.specs.Decide.{blockOf, agree, agreements, digits, votes, maskOf}
 use Rattle.vote.specs.Decide.{invalid, won, lost, count, decide}
 use Rattle.alike.proofs.Equal.{alike-self}
 use Rattle.vote.proofs.Blocks.{block-within, neither}
-use Rattle.vote.proofs.Tables.{tabulate-at}
+use Rattle.search.proofs.Tabulate.{tabulate-at}
 use Rattle.vote.proofs.Winner.{mask-bit, digits-front, leader-le}
 
 -- the numbers of a vote that is allowed

@@ -14,9 +14,10 @@ use Rattle.search.specs.First.{first}
 use Rattle.search.proofs.First.{first-holds, first-same, first-range}
 use Rattle.alike.specs.Alike.{alike}
 use Rattle.alike.proofs.Equal.{alike-self, alike-equal, same-told}
-use Rattle.vote.specs.Decide.{blockOf, tabulate, agree}
+use Rattle.search.specs.Tabulate.{tabulate}
+use Rattle.vote.specs.Decide.{blockOf, agree}
 use Rattle.vote.specs.Groups.{lowest, groupOf, groupsOf, instead, together}
-use Rattle.vote.proofs.Tables.{tabulate-at, tabulate-same}
+use Rattle.search.proofs.Tabulate.{tabulate-at, tabulate-same}
 
 -- ---- groups
 

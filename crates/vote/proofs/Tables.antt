@@ -1,34 +1,13 @@
--- Tabulated lists, and arrays of sixteen that are filled with one from the front.
-use Prim.Native.Nat.{ℕ, zero, suc, _+_, _≤_, _<_}
-use native.Mathlib.Nat.{zero-add, add-zero, add-suc, suc-add, not-suc-le-zero, le-of-suc-le-suc}
+-- Arrays of sixteen that are filled with a tabulated list from the front.
+use Prim.Native.Nat.{ℕ, suc, _+_, _≤_, _<_}
 use native.Mathlib.Numerals.{add-one}
 use native.Mathlib.Omega.{arith}
 use mathlib.Core.Path.{_≡_, refl, sym, ap, ap₂, _∙_}
-use mathlib.Core.List.{List, _∷_, _++_}
-use lib.ListN.{length, getD, set, take, drop, replicate, length-set, take-append-drop}
+use mathlib.Core.List.{List, _++_}
+use lib.ListN.{length, set, take, drop, replicate, length-set, take-append-drop}
 use lib.Seq.{take-suc, take-suc-set, drop-drop, drop-set-lt}
-use Rattle.vote.specs.Decide.{tabulate}
-
-module _ {A : Type 0} (f : ℕ → A) where
-  -- an entry, from any start
-  entry : (d : A) (i n j : ℕ) → j < n → getD (tabulate f i n) j d ≡ f (i + j)
-  unfolding tabulate
-  entry d i zero j h = absurd (not-suc-le-zero h)
-  entry d i (suc n) zero h = rw add-zero
-  entry d i (suc n) (suc j) h = rw (add-suc, ← suc-add) (entry d (suc i) n j (le-of-suc-le-suc h))
-
-  -- an entry, from 0
-  pub tabulate-at : (d : A) (n j : ℕ) → j < n → getD (tabulate f 0 n) j d ≡ f j
-  tabulate-at d n j h = rw zero-add at (entry d 0 n j h)
-
-  -- the same entries give the same list, and from the k-th on the same rest
-  pub tabulate-same : (g : ℕ → A) (i n k : ℕ) → ((j : ℕ) → i + k ≤ j → j < i + n → f j ≡ g j)
-      → drop k (tabulate f i n) ≡ drop k (tabulate g i n)
-  unfolding tabulate
-  tabulate-same g i zero k h = refl
-  tabulate-same g i (suc n) zero h =
-      ap₂ _∷_ (h i (omega arith) (omega arith)) (tabulate-same g (suc i) n 0 (λ j l m. h j (omega arith) (omega arith)))
-  tabulate-same g i (suc n) (suc k) h = tabulate-same g (suc i) n k (λ j l m. h j (omega arith) (omega arith))
+use Rattle.search.specs.Tabulate.{tabulate}
+use Rattle.search.proofs.Tabulate.{tabulate-at, tabulate-same}
 
 -- an array of sixteen, at first all a, of which the first n entries are those of f
 pub record Filled {A : Type 0} (f : ℕ → A) (a : A) (out : List A) (n : ℕ) : Type 0 where

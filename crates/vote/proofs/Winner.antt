@@ -11,7 +11,8 @@ use lib.Seq.{drop-cons, getD-take}
 use lib.Pow.{pow-mono}
 use lib.Dec.{ltb}
 use borrow.Author.Tests.{lt-ltb, le-ltb}
-use Rattle.vote.specs.Decide.{tabulate, digits, leader, votes, maskOf}
+use Rattle.search.specs.Tabulate.{tabulate}
+use Rattle.vote.specs.Decide.{digits, leader, votes, maskOf}
 
 -- ---- digits
 

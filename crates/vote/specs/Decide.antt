@@ -6,6 +6,7 @@ use mathlib.Core.List.{List, [], _∷_, _++_}
 use lib.ListN.{length, getD, take, drop}
 use lib.Dec.{ltb, eqb}
 use Rattle.alike.specs.Alike.{alike}
+use Rattle.search.specs.Tabulate.{tabulate}
 use Rattle.answer.specs.declared.Refusal.{Refusal}
 use Rattle.answer.specs.declared.Refusal.the-variants.{InvalidVote, NoAgreement}
 use Rattle.answer.specs.Reply.{numberOf}
@@ -29,11 +30,6 @@ longest = 4096
 -- the block of replica r
 abbrev pub blockOf : List ℕ → ℕ → ℕ → List ℕ
 blockOf blocks size r = take size (drop (r * size) blocks)
-
--- f at the n numbers from i on
-unfoldable pub tabulate : {A : Type 0} → (ℕ → A) → ℕ → ℕ → List A
-tabulate f i zero = []
-tabulate f i (suc n) = f i ∷ tabulate f (suc i) n
 
 -- replicas i and j, both of the first k, have the same block
 abbrev pub agree : List ℕ → ℕ → ℕ → ℕ → ℕ → Bool

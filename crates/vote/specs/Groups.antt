@@ -7,7 +7,8 @@ use lib.Dec.{ltb, eqb}
 use Rattle.search.specs.First.{first}
 use Rattle.vote.specs.declared.elect.Elected.{Elected}
 use Rattle.alike.specs.Alike.{alike}
-use Rattle.vote.specs.Decide.{blockOf, tabulate, digits, votes, leader}
+use Rattle.search.specs.Tabulate.{tabulate}
+use Rattle.vote.specs.Decide.{blockOf, digits, votes, leader}
 
 -- ---- what all blocks share
 

@@ -3,7 +3,8 @@ ghost use mathlib.Core.Path.{_≡_};
 ghost use Prim.Native.Nat.{_+_, _*_, _≤_, _<_};
 ghost use lib.ListN.{length, getD};
 ghost use Rattle.alike.specs.Alike.{alike};
-ghost use Rattle.vote.specs.Decide.{tabulate, agreements};
+ghost use Rattle.search.specs.Tabulate.{tabulate};
+ghost use Rattle.vote.specs.Decide.{agreements};
 ghost use Rattle.vote.specs.Groups.{bytesAt, AllWithin, allAlike, matching, shared, lowestFrom};
 ghost use Rattle.vote.specs.Groups.{instead, groupsOf, together};
 

@@ -30,6 +30,7 @@ fn all(benchrun: &str) {
     for region in [4096, 1 << 20] {
         operations::table(region);
     }
+    operations::sizes();
     operations::growth();
     reads::table();
     votes::table();

@@ -235,6 +235,21 @@ pub fn table(region: usize) {
     votes::refused_row();
 }
 
+/// An allocation over all slot sizes, in regions that have four slots of the longest.
+pub fn sizes() {
+    let region = 65_536;
+    let title = format!(
+        "An allocation over the sizes, in a class near half full, regions of {} bytes",
+        figure(region)
+    );
+    head(&title, "size, bytes", &["second"]);
+    for size in (3..=14).map(|shift| 1 << shift) {
+        let mut case = allocating(region, size);
+        case.name = figure(size);
+        case.row();
+    }
+}
+
 /// One placing over all region lengths.
 pub fn growth() {
     head(

@@ -4,7 +4,8 @@ use native.Mathlib.Omega.{arith}
 use mathlib.Core.Path.{_≡_}
 use mathlib.Core.Bool.{false}
 use lib.ListN.{replicate}
-use Rattle.vote.specs.Decide.{tabulate, agree}
+use Rattle.search.specs.Tabulate.{tabulate}
+use Rattle.vote.specs.Decide.{agree}
 use Rattle.vote.proofs.Tables.{Filled, filled-none, filled-more, filled-all}
 use Rattle.vote.proofs.Lowest.{agree-row, alone}
 use Rattle.vote.proofs.compare.agreements.Statement.{statement}
