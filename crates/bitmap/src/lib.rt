@@ -83,11 +83,26 @@ fn count_chunk(bitmap: &[u8], from: usize, bytes: usize) -> u8
     total
 }
 
+// How many bits of the first bytes are set, of at most eight. Eight are added up at once: there the compiler knows how
+// many they are.
+fn count_short(bitmap: &[u8], bytes: usize) -> u8
+    requires { ⌜ (bytes ≤ length (now bitmap)) × (bytes ≤ 8) ⌝ }
+    ensures { λ r. ⌜ r ≡ countSet (now (bitmap .entry)) (8 * bytes) ⌝ }
+{
+    if bytes == 8 {
+        return count_chunk(bitmap, 0, 8);
+    }
+    count_chunk(bitmap, 0, bytes)
+}
+
 // How many bits of the first bytes are set.
 fn count_bytes(bitmap: &[u8], bytes: usize) -> usize
     requires { ⌜ (bytes ≤ length (now bitmap)) × (8 * bytes < 2 ^ 64) ⌝ }
     ensures { λ r. ⌜ r ≡ countSet (now (bitmap .entry)) (8 * bytes) ⌝ }
 {
+    if bytes <= 8 {
+        return count_short(bitmap, bytes) as usize;
+    }
     let mut total: usize = 0;
     let mut at: usize = 0;
     while at < bytes {

@@ -14,6 +14,15 @@ Inv-loop bitmap bytes total₀ at₀ total at = (at ≤ bytes) × (total ≡ cou
 abbrev μ-loop : tie.MeasureT-loop
 μ-loop bitmap bytes total₀ at₀ total at = bytes - at
 
+count-short-requires : tie.Need-count-short-requires Inv-loop μ-loop
+count-short-requires c κs = omega arith
+
+cast-result : tie.Need-cast-result Inv-loop μ-loop
+cast-result c = search needs
+
+returns : tie.Need-returns Inv-loop μ-loop
+returns c = c .count-short .ensures
+
 loop-holds : tie.Need-loop-holds Inv-loop μ-loop
 unfolding countSet
 loop-holds c = (omega arith, refl)
@@ -42,9 +51,9 @@ add-at c = omega arith
 loop-less : tie.Need-loop-less Inv-loop μ-loop
 loop-less c = omega arith
 
-returns : tie.Need-returns Inv-loop μ-loop
-returns c =
-    let all : c .before .loop .at ≡ c .before .before .before .args .bytes = omega arith in
+returns-2 : tie.Need-returns-2 Inv-loop μ-loop
+returns-2 c =
+    let all : c .before .loop .at ≡ c .before .before .before .before .args .bytes = omega arith in
     rw all at (c .before .loop .inv .1)
 
 pub count-bytes-spec : {M : Type 1} → statement M
@@ -53,6 +62,9 @@ count-bytes-spec =
     (tie.spec
     Inv-loop
     μ-loop
+    count-short-requires
+    cast-result
+    returns
     loop-holds
     sub-least
     least-requires
@@ -62,4 +74,4 @@ count-bytes-spec =
     add-at
     loop-less
     loop-again
-    returns)
+    returns-2)
