@@ -143,10 +143,15 @@ extern "C" {
 #define POHELDU_LARGEST_OBJECT POHELDU_SLOT_BYTES(POHELDU_CLASSES - 1)
 
 /*
- * Metadata: the generator's two halves, z and w, then for each class a bit for each slot, eight to
- * a byte, rounded up.
+ * Metadata: the generator's two halves, z and w, then for each class the number of its live slots,
+ * four bytes each, lowest first; then for each class a bit for each slot, eight to a byte, rounded
+ * up. What opening and requests leave counts as many slots as have their bit set.
+ *
+ * Other metadata is believed in its counts, by which a class is at capacity, until they give it
+ * away. Then CORRUPT_METADATA refuses: every request and read while the count of any class is above
+ * its capacity; an allocation that finds no clear slot; a free of a live slot where the count is 0.
  */
-#define POHELDU_FIELD_BYTES (2 * sizeof(uint32_t))
+#define POHELDU_FIELD_BYTES ((2 + POHELDU_CLASSES) * sizeof(uint32_t))
 #define POHELDU_BITMAP_BYTES(region, c) ((POHELDU_SLOTS(region, c) + 7) / 8)
 #define POHELDU_BITMAPS_BYTES_(region)                                   \
     (POHELDU_BITMAP_BYTES(region, 0) + POHELDU_BITMAP_BYTES(region, 1) + \
@@ -191,12 +196,13 @@ typedef enum {
     POHELDU_MALFORMED_REQUEST = 4, /* not 16 bytes, no such operation, a byte set that must be 0 */
     POHELDU_UNSUPPORTED_SIZE = 5,  /* more than 16,384 bytes */
     POHELDU_CLASS_TOO_SMALL = 6,   /* the heap has fewer than two slots of that size */
-    POHELDU_CLASS_AT_CAPACITY = 7, /* half the slots of that size, or more, are live */
+    POHELDU_CLASS_AT_CAPACITY = 7, /* half the slots of that size are live */
     POHELDU_OUT_OF_RANGE = 8,      /* a pointer outside the heap, an offset at or past its end */
     POHELDU_NOT_A_SLOT_START = 9,  /* a free where no slot starts */
     POHELDU_NOT_ALLOCATED = 10,    /* a free of what is not live */
     POHELDU_INVALID_VOTE = 11,     /* a number of replicas or a length that is not allowed */
-    POHELDU_NO_AGREEMENT = 12      /* no two blocks are equal */
+    POHELDU_NO_AGREEMENT = 12,     /* no two blocks are equal */
+    POHELDU_CORRUPT_METADATA = 13  /* live counts that opening and requests never leave */
 } poheldu_refusal;
 
 /*
@@ -212,7 +218,7 @@ static inline const char *poheldu_name(uint32_t number)
         "metadata length",  "malformed request", "unsupported size",
         "class too small",  "class at capacity", "out of range",
         "not a slot start", "not allocated",     "invalid vote",
-        "no agreement",
+        "no agreement",     "corrupt metadata",
     };
     return number < sizeof names / sizeof *names ? names[number] : "unknown";
 }
@@ -239,8 +245,8 @@ POHELDU_NODISCARD poheldu_answer poheldu_open(const uint8_t *heap, size_t heap_l
 /*
  * Serves a request, of which poheldu_pack makes the bytes: for programs that have requests as
  * bytes. The functions with plain arguments below make and serve one each, and say what it does and
- * answers. Refuses HEAP_LENGTH, METADATA_LENGTH, MALFORMED_REQUEST, then what the request's
- * operation refuses.
+ * answers. Refuses HEAP_LENGTH, METADATA_LENGTH, CORRUPT_METADATA, MALFORMED_REQUEST, then what the
+ * request's operation refuses.
  *
  * heap, heap_len          written by copies; only its length matters to the answer
  * metadata, metadata_len  read by all, written by allocate and free
@@ -266,7 +272,7 @@ poheldu_answer poheldu_serve(uint8_t *heap, size_t heap_len, uint8_t *metadata, 
  * Where the bytes of an object lie, for programs that look at them without a copy: those from the
  * offset on, up to count, and none past the end of the live object that the offset lies in. Where
  * it lies in none, those at the front of the page, up to count; never some of both. No byte is
- * copied or changed. Refuses HEAP_LENGTH, METADATA_LENGTH, OUT_OF_RANGE.
+ * copied or changed. Refuses HEAP_LENGTH, METADATA_LENGTH, CORRUPT_METADATA, OUT_OF_RANGE.
  *
  * heap, heap_len          the heap; only its length matters
  * metadata, metadata_len  read
@@ -311,9 +317,9 @@ POHELDU_NODISCARD size_t poheldu_metadata_length(size_t heap_len);
 
 /* ---- Objects, by pointer
  *
- * Each is one request with plain arguments and, beside what it names, refuses HEAP_LENGTH and
- * METADATA_LENGTH first. POHELDU_OUT_OF_RANGE stands for every pointer that does not lead into the
- * heap, null among them.
+ * Each is one request with plain arguments and, beside what it names, refuses HEAP_LENGTH,
+ * METADATA_LENGTH and CORRUPT_METADATA first. POHELDU_OUT_OF_RANGE stands for every pointer that
+ * does not lead into the heap, null among them.
  */
 
 /* The buffers of one heap, lent to each call. */
@@ -336,8 +342,8 @@ POHELDU_NODISCARD static inline void *poheldu_new(const poheldu_heap *h, size_t 
 
 /*
  * Frees the object that starts at p. The value is its slot's size. Refuses OUT_OF_RANGE,
- * NOT_A_SLOT_START, NOT_ALLOCATED, and then does no harm. Null is no object: nothing is done, and
- * that is served with value 0.
+ * NOT_A_SLOT_START, NOT_ALLOCATED, CORRUPT_METADATA, and then does no harm. Null is no object:
+ * nothing is done, and that is served with value 0.
  *
  *     poheldu_delete(h, p);
  */
@@ -361,10 +367,10 @@ typedef struct {
 /*
  * Shows the object that p points into, without a copy: its bytes from p on, up to count, and none
  * past its end. Where it is freed, or p points into no object, the page stands in: its first bytes,
- * up to count and at most UINT32_MAX. Where p is null or outside the heap, or a length is refused,
- * no bytes are shown: the page with a length of 0. So a program that prints len bytes needs no case
- * for any of these. One that wants to know lends no page, null and 0: then bytes is null exactly
- * where p points into no live object.
+ * up to count and at most UINT32_MAX. Where p is null or outside the heap, or a length or the
+ * metadata is refused, no bytes are shown: the page with a length of 0. So a program that prints
+ * len bytes needs no case for any of these. One that wants to know lends no page, null and 0: then
+ * bytes is null exactly where p points into no live object or the call is refused.
  *
  * The bytes are the object's own: what is written to it later shows in them, and once it is freed
  * they may become another object's.
@@ -498,7 +504,7 @@ static inline poheldu_answer poheldu_request(const poheldu_heap *h, uint32_t ope
 
 /*
  * Takes a slot for size bytes, 0 among them. The value is its offset. Refuses UNSUPPORTED_SIZE,
- * CLASS_TOO_SMALL, CLASS_AT_CAPACITY.
+ * CLASS_TOO_SMALL, CLASS_AT_CAPACITY, CORRUPT_METADATA.
  *
  *     poheldu_answer a = poheldu_allocate(h, 100);
  *     if (a.number == POHELDU_CLASS_AT_CAPACITY)
@@ -511,7 +517,7 @@ POHELDU_NODISCARD static inline poheldu_answer poheldu_allocate(const poheldu_he
 
 /*
  * Frees the object that starts at an offset. The value is its slot's size. Refuses OUT_OF_RANGE,
- * NOT_A_SLOT_START, NOT_ALLOCATED.
+ * NOT_A_SLOT_START, NOT_ALLOCATED, CORRUPT_METADATA.
  *
  *     poheldu_free(h, offset);
  */

@@ -546,12 +546,93 @@ static void views_refused(void)
     closed(h);
 }
 
+/* ---- live counts */
+
+static uint8_t *count_at(poheldu_heap h, size_t c)
+{
+    return h.metadata + (2 + c) * sizeof(uint32_t);
+}
+
+static void set_count(poheldu_heap h, size_t c, uint32_t count)
+{
+    for (size_t i = 0; i < sizeof count; i++)
+        count_at(h, c)[i] = (uint8_t)(count >> 8 * i);
+}
+
+/* Each object of a class is counted from its allocation to its free. */
+static void counts_of_objects(void)
+{
+    const poheldu_heap h = opened(4096);
+    const size_t half = POHELDU_CAPACITY(4096, 0);
+    void *objects[POHELDU_CAPACITY(4096, 0)];
+    for (size_t i = 0; i < half; i++) {
+        EXPECT(count_at(h, 0)[0] == (uint8_t)i && count_at(h, 0)[1] == i >> 8);
+        objects[i] = poheldu_new(&h, 8);
+    }
+    EXPECT(count_at(h, 0)[0] == 0 && count_at(h, 0)[1] == 1 && poheldu_new(&h, 8) == NULL);
+    for (size_t i = half; i > 0; i--) {
+        EXPECT(is(poheldu_delete(&h, objects[i - 1]), POHELDU_SERVED, 8));
+        EXPECT(is(poheldu_delete(&h, objects[i - 1]), POHELDU_NOT_ALLOCATED, 0));
+        EXPECT(count_at(h, 0)[0] == (uint8_t)(i - 1) && count_at(h, 0)[1] == (i - 1) >> 8);
+    }
+    closed(h);
+}
+
+/* With the count of any class above half every request is refused, and nothing changes; opening makes it good. */
+static void counts_above_half(void)
+{
+    const poheldu_heap fresh = opened(1024);
+    char page[] = "withdrawn";
+    const uint32_t offset = poheldu_allocate(&fresh, 100).value;
+    for (size_t c = 0; c < POHELDU_CLASSES; c++) {
+        const uint32_t half = (uint32_t)POHELDU_CAPACITY(1024, c), counts[] = {half + 1, (1u << 31) + half, UINT32_MAX};
+        for (size_t i = 0; i < sizeof counts / sizeof *counts; i++) {
+            const poheldu_heap h = twin_of(fresh);
+            void *const p = poheldu_at(&h, offset);
+            set_count(h, c, counts[i]);
+            const poheldu_heap before = twin_of(h);
+            EXPECT(is(poheldu_allocate(&h, 8), POHELDU_CORRUPT_METADATA, 0) && poheldu_new(&h, SIZE_MAX) == NULL);
+            EXPECT(is(poheldu_delete(&h, p), POHELDU_CORRUPT_METADATA, 0));
+            EXPECT(is(poheldu_delete(&h, page), POHELDU_CORRUPT_METADATA, 0));
+            EXPECT(is(poheldu_delete(&h, NULL), POHELDU_SERVED, 0));
+            EXPECT(is(poheldu_strcpy(&h, p, "Anna"), POHELDU_CORRUPT_METADATA, 0));
+            EXPECT(is(poheldu_request(&h, UINT8_MAX, 0, 0, NULL, 0), POHELDU_CORRUPT_METADATA, 0));
+            EXPECT(poheldu_usable_size(&h, p) == 0 && shows(poheldu_look(&h, p, 4, page, 9), page, 0));
+            EXPECT(same(h, before));
+            EXPECT(is(poheldu_open(h.heap, h.heap_len, h.metadata, h.metadata_len, 7, 11), POHELDU_SERVED, 0));
+            EXPECT(is(poheldu_allocate(&h, 100), POHELDU_SERVED, offset));
+            closed(before);
+            closed(h);
+        }
+    }
+    closed(fresh);
+}
+
+/* Counts of at most half are believed until a free or the search for a clear slot finds that they are not so. */
+static void counts_believed(void)
+{
+    const poheldu_heap h = opened(1024);
+    void *const p = poheldu_new(&h, 8);
+    set_count(h, 0, (uint32_t)POHELDU_CAPACITY(1024, 0));
+    EXPECT(is(poheldu_allocate(&h, 8), POHELDU_CLASS_AT_CAPACITY, 0) && poheldu_usable_size(&h, p) == 8);
+    set_count(h, 0, 0);
+    EXPECT(is(poheldu_delete(&h, p), POHELDU_CORRUPT_METADATA, 0) && poheldu_usable_size(&h, p) == 8);
+    memset(h.metadata + POHELDU_FIELD_BYTES, 0xFF, POHELDU_BITMAP_BYTES(1024, 0));
+    const poheldu_heap before = twin_of(h);
+    EXPECT(is(poheldu_allocate(&h, 8), POHELDU_CORRUPT_METADATA, 0) && poheldu_new(&h, 0) == NULL);
+    EXPECT(same(h, before));
+    EXPECT(is(poheldu_allocate(&h, 16385), POHELDU_UNSUPPORTED_SIZE, 0));
+    EXPECT(poheldu_new(&h, 16) != NULL);
+    closed(before);
+    closed(h);
+}
+
 /* ---- macros */
 
 typedef uint8_t heap_array[POHELDU_HEAP_BYTES(1024)], metadata_array[POHELDU_METADATA_BYTES(1 << 12)];
 static_assert(sizeof(heap_array) == 12 * 1024, "twelve regions");
-static_assert(POHELDU_METADATA_BYTES(1024) == 42 && sizeof(metadata_array) == 138, "as the rules have it");
-static_assert(POHELDU_METADATA_BYTES(1048576) == 32768 && POHELDU_LARGEST_OBJECT == 16384, "as the rules have it");
+static_assert(POHELDU_METADATA_BYTES(1024) == 90 && sizeof(metadata_array) == 186, "as the rules have it");
+static_assert(POHELDU_METADATA_BYTES(1048576) == 32816 && POHELDU_LARGEST_OBJECT == 16384, "as the rules have it");
 static_assert(POHELDU_HEAP_BYTES(1000) == 0 && POHELDU_METADATA_BYTES(1000) == 0, "no region");
 
 static void macros(void)
@@ -580,6 +661,9 @@ int main(void)
     usable_sizes();
     ends_of_views();
     views_refused();
+    counts_of_objects();
+    counts_above_half();
+    counts_believed();
     looks_everywhere();
     destinations_outside();
     ends_of_texts();

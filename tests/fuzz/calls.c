@@ -7,7 +7,7 @@
 #include <stdlib.h>
 #include <string.h>
 
-enum { NUMBERS = POHELDU_NO_AGREEMENT + 1, OPERATIONS = 7, CLASSES = 12, REPLICAS = 16 };
+enum { NUMBERS = POHELDU_CORRUPT_METADATA + 1, OPERATIONS = 7, CLASSES = 12, REPLICAS = 16 };
 
 static struct {
     uint64_t numbers[NUMBERS];   /* answers, by refusal number */
@@ -15,6 +15,7 @@ static struct {
     uint64_t requests, walks;    /* walks: allocations that took another slot than the last one drawn */
     uint64_t of_nothing;         /* served allocations of 0 bytes */
     uint64_t strings[4];         /* strings copied: shorter than the space, as long with a zero, as long without, longer */
+    uint64_t corrupt[3];         /* corrupt metadata: a count above half, no clear slot, a free by a count of 0 */
     uint64_t shown[2][2];        /* reads served, by of_page and by whether the part has a byte */
 } seen;
 
@@ -103,10 +104,19 @@ static bool was_walk(lent_heap h, uint32_t offset)
     return drawn != offset % region / slot_size;
 }
 
-static uint32_t argument_of(const twin *request)
+static uint32_t word_at(const twin *t, size_t at)
 {
-    const uint8_t *const bytes = twin_ours(request);
-    return bytes[4] | (uint32_t)bytes[5] << 8 | (uint32_t)bytes[6] << 16 | (uint32_t)bytes[7] << 24;
+    const uint8_t *const bytes = twin_ours(t) + at;
+    return bytes[0] | (uint32_t)bytes[1] << 8 | (uint32_t)bytes[2] << 16 | (uint32_t)bytes[3] << 24;
+}
+
+/* A refusal changes no byte, so that the metadata still show its reason. */
+static void count_corrupt(lent_heap h, const twin *request)
+{
+    size_t above = 0;
+    for (size_t class = 0; class < CLASSES; class++)
+        above += word_at(h.metadata, 8 + 4 * class) > h.heap->len / CLASSES / ((size_t)8 << class) / 2;
+    seen.corrupt[above > 0 ? 0 : twin_ours(request)[0] == POHELDU_ALLOCATE ? 1 : 2]++;
 }
 
 /* A string where nothing is live counts for none. */
@@ -124,7 +134,7 @@ static void count_string(lent_heap h, uint32_t offset, const twin *source)
 static void count_served(lent_heap h, const twin *request, const twin *source, uint32_t value)
 {
     const uint8_t operation = twin_ours(request)[0];
-    const uint32_t argument = argument_of(request);
+    const uint32_t argument = word_at(request, 4);
     seen.served[operation]++;
     if (operation == POHELDU_COPY_STRING)
         count_string(h, argument, source);
@@ -143,6 +153,8 @@ bool calls_saw_all(void)
         all = all && seen.served[i] > 0;
     for (int i = 0; i < 4; i++)
         all = all && seen.strings[i] > 0;
+    for (int i = 0; i < 3; i++)
+        all = all && seen.corrupt[i] > 0;
     for (int i = 0; i < 2; i++)
         all = all && seen.shown[i][0] > 0 && seen.shown[i][1] > 0;
     return all;
@@ -161,6 +173,9 @@ void calls_report(void)
     fprintf(stderr, "; allocations by the walk: %" PRIu64 ", of 0 bytes: %" PRIu64 "\n", seen.walks, seen.of_nothing);
     fprintf(stderr, "fuzz: strings shorter than the space: %" PRIu64 ", as long with a zero: %" PRIu64, seen.strings[0], seen.strings[1]);
     fprintf(stderr, ", without: %" PRIu64 ", longer: %" PRIu64 "\n", seen.strings[2], seen.strings[3]);
+    fprintf(stderr, "fuzz: corrupt metadata, a count above half: %" PRIu64 ", no clear slot: %" PRIu64, seen.corrupt[0],
+            seen.corrupt[1]);
+    fprintf(stderr, ", a free by a count of 0: %" PRIu64 "\n", seen.corrupt[2]);
     fprintf(stderr, "fuzz: parts shown of the heap: %" PRIu64 ", empty %" PRIu64 "; of the page: %" PRIu64 ", empty %" PRIu64 "\n", seen.shown[0][1],
             seen.shown[0][0], seen.shown[1][1], seen.shown[1][0]);
     fprintf(stderr, "fuzz: %" PRIu64 " calls, %" PRIu64 " of them requests\n", calls, seen.requests);
@@ -190,6 +205,8 @@ poheldu_answer call_serve(lent_heap h, const twin *request, const twin *source, 
     seen.requests++;
     if (ours.number == POHELDU_SERVED)
         count_served(h, request, source, ours.value);
+    if (ours.number == POHELDU_CORRUPT_METADATA)
+        count_corrupt(h, request);
     return ours;
 }
 

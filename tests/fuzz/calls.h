@@ -18,7 +18,10 @@ void call_read(lent_heap h, uint32_t offset, uint32_t count, const twin *page);
 void call_vote(const twin *blocks, size_t replicas, size_t block_len, const twin *output);
 void call_metadata_length(size_t heap_len);
 
-/* Whether every refusal, every operation served, the walk, and every kind of string and of part shown have come. */
+/*
+ * Whether every refusal, every operation served, the walk, and every kind of string, of corrupt metadata and of part
+ * shown have come.
+ */
 bool calls_saw_all(void);
 
 /* Says on standard error what came, and how often. */

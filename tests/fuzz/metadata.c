@@ -1,6 +1,6 @@
 #include "run.h"
 
-enum { STATE_LEN = 8, DRAWS = 32 };
+enum { COUNTS_AT = 8, COUNTS_LEN = 4 * CLASSES, BITMAPS_AT = COUNTS_AT + COUNTS_LEN, DRAWS = 32 };
 
 /* Seeds of which every draw is the same. */
 static const uint32_t STUCK_Z = 0x9068FFFF, STUCK_W = 0x464FFFFF;
@@ -36,6 +36,49 @@ void open_any(run *r)
     open_with(r, z, w);
 }
 
+static size_t bitmap_start(const run *r, uint32_t class)
+{
+    size_t start = BITMAPS_AT;
+    for (uint32_t c = 0; c < class; c++)
+        start += (slots(r, c) + 7) / 8;
+    return start;
+}
+
+/* ---- live counts */
+
+static void set_count(run *r, uint32_t class, uint32_t count)
+{
+    twin_set_word(r->lent.metadata, COUNTS_AT + 4 * class, count);
+}
+
+static uint32_t set_bits(const run *r, uint32_t class)
+{
+    const uint8_t *const bitmap = twin_ours(r->lent.metadata) + bitmap_start(r, class);
+    uint32_t count = 0;
+    for (uint32_t i = 0; i < slots(r, class); i++)
+        count += bitmap[i / 8] >> i % 8 & 1;
+    return count;
+}
+
+/* Counts that are believed: none, half, or as many as have their bit set, at most half. */
+static void set_counts(run *r, uint32_t kind)
+{
+    for (uint32_t class = 0; class < CLASSES; class++) {
+        const uint32_t half = slots(r, class) / 2, live = set_bits(r, class);
+        set_count(r, class, kind == 0 ? 0 : kind == 1 || live > half ? half : live);
+    }
+}
+
+/* One count that is believed, or one more, or one that is small when doubled or cut short. */
+static void damage_count(run *r)
+{
+    const uint32_t class = below(&r->input, CLASSES), half = slots(r, class) / 2;
+    const uint32_t counts[] = {0, half / 2, half, half + 1, 1u << 16, (1u << 31) + half, UINT32_MAX};
+    set_count(r, class, PICK(&r->input, counts));
+}
+
+/* ---- foreign metadata */
+
 static uint8_t noise(uint32_t *state)
 {
     *state = *state * 1664525 + 1013904223;
@@ -60,33 +103,33 @@ static uint8_t bitmap_byte(uint32_t kind, uint32_t *state)
     }
 }
 
-/* Any bits, those beyond the last slot too, and seeds that may be zero. */
+/* Any bits, those beyond the last slot too, seeds that may be zero, and counts that need not agree with the bits. */
 void foreign_metadata(run *r)
 {
     twin *const metadata = r->lent.metadata;
     const uint32_t kind = below(&r->input, 5), z = any_seed(&r->input, STUCK_Z), w = any_seed(&r->input, STUCK_W);
     uint32_t state = next_word(&r->input);
-    for (size_t at = STATE_LEN; at < metadata->len; at++)
+    for (size_t at = BITMAPS_AT; at < metadata->len; at++)
         twin_set(metadata, at, bitmap_byte(kind, &state));
     twin_set_word(metadata, 0, z);
     twin_set_word(metadata, 4, w);
+    set_counts(r, below(&r->input, 4));
+    if (below(&r->input, 8) == 1)
+        damage_count(r);
 }
 
+/* Of the counts' bytes most others would refuse every request from then on, so these are seldom changed. */
 void damage_metadata(run *r)
 {
-    const uint32_t at = below(&r->input, (uint32_t)r->lent.metadata->len);
-    twin_set(r->lent.metadata, at, next_byte(&r->input));
+    if (below(&r->input, 4) == 1) {
+        damage_count(r);
+        return;
+    }
+    const uint32_t at = below(&r->input, (uint32_t)r->lent.metadata->len - COUNTS_LEN);
+    twin_set(r->lent.metadata, at < COUNTS_AT ? at : at + COUNTS_LEN, next_byte(&r->input));
 }
 
 /* ---- traps */
-
-static size_t bitmap_start(const run *r, uint32_t class)
-{
-    size_t start = STATE_LEN;
-    for (uint32_t c = 0; c < class; c++)
-        start += (slots(r, c) + 7) / 8;
-    return start;
-}
 
 static void set_slot(run *r, uint32_t class, uint32_t slot)
 {
@@ -104,6 +147,7 @@ static void set_drawn(run *r, uint32_t class, uint32_t w)
     }
     for (uint32_t i = 1; i <= above; i++)
         set_slot(r, class, (w + i) % n);
+    set_count(r, class, set_bits(r, class));
 }
 
 uint32_t set_trap(run *r)

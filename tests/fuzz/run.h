@@ -41,7 +41,7 @@ static inline uint32_t slots(const run *r, uint32_t class)
 /* Numbers whose products and sums pass 2^32 or 2^64. */
 size_t any_huge(choices *c);
 
-/* Metadata (metadata.c): opened with any seeds, made by no opening, or with one byte changed. */
+/* Metadata (metadata.c): opened with any seeds, made by no opening, or with one byte or one count changed. */
 void open_any(run *r);
 void foreign_metadata(run *r);
 void damage_metadata(run *r);

@@ -2,17 +2,20 @@
 //! side, and compares the answers and every byte of every buffer.
 
 use crate::capi::{self, Empty};
-use crate::inputs;
+use crate::inputs::{self, Shape};
 use crate::reference::{self, Answer, Part, Verdict};
 use std::fmt::{self, Debug, Display};
 
 const GUARD: u8 = 0xA5;
 const MOST_BYTES_SHOWN: usize = 4_096;
-const REFUSALS: usize = 13;
+const REFUSALS: usize = 14;
 const OPERATIONS: usize = 7;
 const BUFFERS: usize = 7;
-const KINDS: usize = 8;
+const KINDS: usize = 9;
 const STRINGS: usize = 6;
+const CORRUPT: usize = 8;
+/// The refusal of metadata that no opening and no request left so.
+const CORRUPT_METADATA: u32 = 13;
 
 /// The kinds of reads that are told apart, in the order they are counted in.
 pub const READ_KINDS: [&str; KINDS] = [
@@ -23,6 +26,7 @@ pub const READ_KINDS: [&str; KINDS] = [
     "clipped at the page's end",
     "refused with 2",
     "refused with 3",
+    "refused with 13",
     "refused with 8",
 ];
 
@@ -34,6 +38,19 @@ pub const STRING_KINDS: [&str; STRINGS] = [
     "longer by their zero",
     "longer by more",
     "where there is no space",
+];
+
+/// The kinds of refusals with 13 that are told apart, in the order they are
+/// counted in. One for a count above half may be of several.
+pub const CORRUPT_KINDS: [&str; CORRUPT] = [
+    "for a count one above half",
+    "for a count that fits once doubled in 32 bits",
+    "for a count that fits once cut to 16 bits",
+    "for another count",
+    "for a count of a class of no or one slot",
+    "of a malformed request",
+    "by the walk",
+    "at a free",
 ];
 
 /// Two equal buffers, one for each implementation. Guard bytes around them
@@ -232,8 +249,32 @@ fn read_kind(part: Part, count: u32) -> usize {
         (0, _) => 3 + clipped,
         (2, _) => 5,
         (3, _) => 6,
-        _ => 7,
+        (CORRUPT_METADATA, _) => 7,
+        _ => 8,
     }
+}
+
+/// Which of `CORRUPT_KINDS` a request's refusal with 13 was.
+fn corrupt_kinds(shape: Shape, metadata: &[u8], request: &[u8]) -> [bool; CORRUPT] {
+    let Some(class) = inputs::above_half(shape, metadata) else {
+        let free = request.first() == Some(&1);
+        return [false, false, false, false, false, false, !free, free];
+    };
+    let (count, half) = (inputs::count_of(metadata, class), shape.half(class));
+    let one_above = count == half + 1;
+    let doubled = count.wrapping_mul(2) <= 2 * half;
+    let cut = count & 0xFFFF <= half;
+    let malformed = request.len() != 16 || request[0] > 6;
+    [
+        one_above,
+        doubled,
+        cut,
+        !one_above && !doubled && !cut,
+        shape.slots(class) < 2,
+        malformed,
+        false,
+        false,
+    ]
 }
 
 /// Which of `STRING_KINDS` a copy of a string was.
@@ -268,6 +309,8 @@ pub struct Tester {
     pub edge_sizes: [u64; 3],
     /// Served copies of strings, of each kind.
     pub strings: [u64; STRINGS],
+    /// Requests refused with 13, of each kind.
+    pub corrupt: [u64; CORRUPT],
     /// Allocations that took a slot that was not drawn.
     pub walks: u64,
     /// Walks that went past the last slot.
@@ -290,6 +333,7 @@ impl Tester {
             malformed: [0; 2],
             edge_sizes: [0; 3],
             strings: [0; STRINGS],
+            corrupt: [0; CORRUPT],
             walks: 0,
             wraps: 0,
             nulls: [0; BUFFERS],
@@ -342,6 +386,9 @@ impl Tester {
             self.count_served(operation, heap, metadata, answer.value);
         }
         self.count_request(heap, metadata, lent, answer);
+        if answer.number == CORRUPT_METADATA {
+            self.count_corrupt(heap, metadata, lent);
+        }
         answer
     }
 
@@ -465,6 +512,15 @@ impl Tester {
             (Some([0, 0, 0, 0]), 7) => self.edge_sizes[1] += 1,
             (Some([0, 16_385, 0, 0]), 5) => self.edge_sizes[2] += 1,
             _ => (),
+        }
+    }
+
+    /// A refusal changes no byte, so that the metadata still show its reason.
+    fn count_corrupt(&mut self, heap: &Twin, metadata: &Twin, lent: &Lent) {
+        let region = heap.shown / inputs::CLASSES;
+        let kinds = corrupt_kinds(Shape { region }, metadata.bytes(), lent.request.bytes());
+        for (count, kind) in self.corrupt.iter_mut().zip(kinds) {
+            *count += u64::from(kind);
         }
     }
 

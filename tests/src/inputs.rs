@@ -3,9 +3,14 @@
 use crate::random::Random;
 
 pub const CLASSES: usize = 12;
+/// Where the live counts start in the metadata, and the bitmaps after them.
+const COUNTS: usize = 8;
+pub const BITMAPS: usize = COUNTS + 4 * CLASSES;
 /// Seeds whose half of the generator never moves: every draw is the same.
 pub const STUCK_Z: u32 = 0x9068_FFFF;
 pub const STUCK_W: u32 = 0x464F_FFFF;
+/// The draw of both.
+pub const STUCK_DRAW: usize = 0x464E_FFFF;
 
 pub const HUGE: [usize; 10] = [
     1 << 32,
@@ -45,9 +50,14 @@ impl Shape {
         self.region / slot_size(class)
     }
 
+    /// How many objects the class takes, and no count of it is above.
+    pub fn half(self, class: usize) -> u32 {
+        (self.slots(class) / 2) as u32
+    }
+
     pub fn bitmap_start(self, class: usize) -> usize {
         let before = (0..class).map(|class| self.slots(class).div_ceil(8));
-        8 + before.sum::<usize>()
+        BITMAPS + before.sum::<usize>()
     }
 
     pub fn metadata_len(self) -> usize {
@@ -225,16 +235,103 @@ pub fn seed_word(rng: &mut Random, stuck: u32) -> u32 {
     }
 }
 
+pub fn set_seeds(metadata: &mut [u8], z: u32, w: u32) {
+    metadata[0..4].copy_from_slice(&z.to_le_bytes());
+    metadata[4..8].copy_from_slice(&w.to_le_bytes());
+}
+
+// --- Live counts ---
+
+pub fn count_of(metadata: &[u8], class: usize) -> u32 {
+    let at = COUNTS + 4 * class;
+    u32::from_le_bytes([0, 1, 2, 3].map(|byte| metadata[at + byte]))
+}
+
+pub fn set_count(metadata: &mut [u8], class: usize, count: u32) {
+    let at = COUNTS + 4 * class;
+    metadata[at..at + 4].copy_from_slice(&count.to_le_bytes());
+}
+
+/// The class's set bits; those beyond its slots do not count.
+pub fn set_bits(shape: Shape, metadata: &[u8], class: usize) -> u32 {
+    let bitmap = &metadata[shape.bitmap_start(class)..shape.bitmap_start(class + 1)];
+    match (shape.slots(class), bitmap) {
+        (slots @ 1..8, [byte]) => (byte & ((1 << slots) - 1)).count_ones(),
+        _ => bitmap.iter().map(|byte| byte.count_ones()).sum(),
+    }
+}
+
+/// The first class whose count is above half, so that every request is refused.
+pub fn above_half(shape: Shape, metadata: &[u8]) -> Option<usize> {
+    (0..CLASSES).find(|&class| count_of(metadata, class) > shape.half(class))
+}
+
+/// Counts that requests are served with: each class's set bits, or half of its
+/// slots where more are set.
+pub fn fit_counts(shape: Shape, metadata: &mut [u8]) {
+    for class in 0..CLASSES {
+        let count = set_bits(shape, metadata, class).min(shape.half(class));
+        set_count(metadata, class, count);
+    }
+}
+
+/// A count above half: by one, or small once it is doubled in 32 bits or cut to
+/// 16, or any.
+fn count_above(rng: &mut Random, half: u32) -> u32 {
+    match rng.below(8) {
+        0..=2 => half + 1,
+        3 | 4 => (1 << 31) + rng.below(half as usize + 1) as u32,
+        5 => u32::MAX - rng.below(3) as u32,
+        6 => (half + 1).next_multiple_of(1 << 16),
+        _ => rng.word().max(half + 1),
+    }
+}
+
+/// A count that nothing in the bitmap speaks for.
+fn any_count(rng: &mut Random, half: u32) -> u32 {
+    match rng.below(4) {
+        0 => 0,
+        1 => half,
+        2 => rng.below(half as usize + 1) as u32,
+        _ => count_above(rng, half),
+    }
+}
+
+/// Counts that fit the bitmaps, or are at most half and do not, or are one or
+/// several of them above half.
+fn foreign_counts(rng: &mut Random, shape: Shape, metadata: &mut [u8]) {
+    let kind = rng.below(10);
+    fit_counts(shape, metadata);
+    for class in 0..CLASSES {
+        let half = shape.half(class);
+        let count = match kind {
+            0 | 1 => 0,
+            2 => half,
+            3 => rng.below(half as usize + 1) as u32,
+            4 => set_bits(shape, metadata, class),
+            _ => count_of(metadata, class),
+        };
+        set_count(metadata, class, count);
+    }
+    if rng.once_in(8) {
+        let class = rng.below(CLASSES);
+        set_count(metadata, class, count_above(rng, shape.half(class)));
+    }
+}
+
+// --- Metadata ---
+
 /// Metadata of the right length that no opening made.
 pub fn foreign_metadata(rng: &mut Random, shape: Shape) -> Vec<u8> {
     let len = shape.metadata_len();
-    let mut bytes = match rng.below(8) {
+    let mut bytes = match rng.below(9) {
         0 => vec![0; len],
         1 => vec![0xFF; len],
         2 => rng.bytes(len),
         3 => combine(rng, len, |a, b| a & b),
         4 => combine(rng, len, |a, b| a | b),
         5 => near_capacity(rng, shape),
+        6 => full_class(rng, shape),
         _ => {
             let open = (0..CLASSES).filter(|&class| shape.slots(class) >= 128);
             let class = rng.below(open.count());
@@ -243,9 +340,9 @@ pub fn foreign_metadata(rng: &mut Random, shape: Shape) -> Vec<u8> {
     };
     if !rng.once_in(8) {
         let (z, w) = (seed_word(rng, STUCK_Z), seed_word(rng, STUCK_W));
-        bytes[0..4].copy_from_slice(&z.to_le_bytes());
-        bytes[4..8].copy_from_slice(&w.to_le_bytes());
+        set_seeds(&mut bytes, z, w);
     }
+    foreign_counts(rng, shape, &mut bytes);
     bytes
 }
 
@@ -268,6 +365,16 @@ fn near_capacity(rng: &mut Random, shape: Shape) -> Vec<u8> {
     bytes
 }
 
+/// One class has all slots live, so that by a count below half an allocation
+/// walks round all of it: not one of the longest, where that takes its time.
+fn full_class(rng: &mut Random, shape: Shape) -> Vec<u8> {
+    let mut bytes = vec![0; shape.metadata_len()];
+    let short = (0..CLASSES).filter(|&class| (2..=4_096).contains(&shape.slots(class)));
+    let class = rng.pick(&short.collect::<Vec<_>>());
+    bytes[shape.bitmap_start(class)..shape.bitmap_start(class + 1)].fill(0xFF);
+    bytes
+}
+
 /// Sets `live` bits from slot `first` on, going round the end.
 fn set_run(bitmap: &mut [u8], slots: usize, first: usize, live: usize) {
     for index in (first..first + live).map(|index| index % slots) {
@@ -276,12 +383,12 @@ fn set_run(bitmap: &mut [u8], slots: usize, first: usize, live: usize) {
 }
 
 /// Metadata whose next 32 draws in the class (or all but the last) meet live
-/// slots, so that the walk starts anywhere. The class has 128 slots or more.
+/// slots, so that the walk starts anywhere. The class has 128 slots or more, and
+/// its count is that of its set bits, or below half where those are not.
 pub fn trap(rng: &mut Random, shape: Shape, class: usize) -> Vec<u8> {
     let mut bytes = vec![0; shape.metadata_len()];
     let (mut z, mut w) = (rng.word(), rng.word());
-    bytes[0..4].copy_from_slice(&z.to_le_bytes());
-    bytes[4..8].copy_from_slice(&w.to_le_bytes());
+    set_seeds(&mut bytes, z, w);
     let slots = shape.slots(class);
     let bitmap = &mut bytes[shape.bitmap_start(class)..];
     for _ in 0..rng.pick(&[31, 32, 32, 32]) {
@@ -291,13 +398,32 @@ pub fn trap(rng: &mut Random, shape: Shape, class: usize) -> Vec<u8> {
         let live = rng.pick(&[1, 1, 1, 1, 1, 1, 1, 10]).min(slots - slot);
         set_run(bitmap, slots, slot, live);
     }
+    let count = set_bits(shape, &bytes, class).min(shape.half(class) - 2);
+    set_count(&mut bytes, class, count);
     bytes
 }
 
-/// Changes a few bytes.
-pub fn damage(rng: &mut Random, bytes: &mut [u8]) {
+/// All bits set, those beyond the slots too, and each class half full by its
+/// count.
+pub fn all_live(shape: Shape) -> Vec<u8> {
+    let mut bytes = vec![0xFF; shape.metadata_len()];
+    fit_counts(shape, &mut bytes);
+    bytes
+}
+
+/// Changes a class's count, or a few bytes that are no count's: of theirs most
+/// would be refused, and nothing else be tried.
+pub fn damage(rng: &mut Random, shape: Shape, bytes: &mut [u8]) {
+    if rng.once_in(4) {
+        let class = rng.below(CLASSES);
+        let count = any_count(rng, shape.half(class));
+        return set_count(bytes, class, count);
+    }
     for _ in 0..rng.between(1, 4) {
-        let at = rng.below(bytes.len());
+        let at = match rng.below(COUNTS + bytes.len() - BITMAPS) {
+            at @ 0..COUNTS => at,
+            at => at - COUNTS + BITMAPS,
+        };
         bytes[at] = rng.byte();
     }
 }
@@ -327,8 +453,8 @@ pub fn metadata_length(rng: &mut Random, heap_len: usize) -> usize {
         1 => right + 1,
         2 => right - 1,
         3 => Shape::random(rng).metadata_len(),
-        4 => rng.below(200),
-        5 => rng.pick(&[1, 4, 7, 8, 9]),
+        4 => rng.below(250),
+        5 => rng.pick(&[1, 7, 8, 9, BITMAPS - 1, BITMAPS, BITMAPS + 1]),
         _ => right,
     }
 }

@@ -1,7 +1,11 @@
 //! Second implementation of the allocator, written from the specification alone.
 //!
 //! The heap is twelve regions of equal length, one for each size class. The
-//! metadata holds the generator's state (z, w) and one bitmap for each class.
+//! metadata holds the generator's state (z, w), a live count for each class and
+//! then a bitmap for each class. Opening and requests keep each count equal to
+//! its bitmap's set bits; metadata that others made are believed in their
+//! counts, unless one is above half of its class's slots or an operation finds
+//! that it cannot be right.
 
 use std::ops::Range;
 
@@ -12,8 +16,9 @@ const LARGEST_SIZE: u32 = 16_384;
 /// A region is 2^10 to 2^20 bytes long.
 const REGION_SHIFTS: Range<u32> = 10..21;
 const LAYOUTS: usize = 11;
-/// z and w, four bytes each, stand before the bitmaps.
-const STATE_LENGTH: usize = 8;
+/// z, w and the live counts, four bytes each, stand before the bitmaps.
+const COUNTS_START: usize = 8;
+const FIELDS_LENGTH: usize = COUNTS_START + 4 * CLASSES;
 const REQUEST_LENGTH: usize = 16;
 const MOST_DRAWS: usize = 32;
 const MOST_REPLICAS: usize = 16;
@@ -83,6 +88,7 @@ enum Refusal {
     NotAllocated = 10,
     InvalidVote = 11,
     NoAgreement = 12,
+    CorruptMetadata = 13,
 }
 
 impl From<Result<u32, Refusal>> for Answer {
@@ -116,7 +122,7 @@ pub fn serve(
 
 /// Says where the bytes of a read lie. Nothing is copied.
 pub fn read(heap: &[u8], metadata: &[u8], offset: u32, count: u32, page: &[u8]) -> Part {
-    Layout::of_lengths(heap.len(), metadata.len())
+    Layout::of_buffers(heap.len(), metadata)
         .and_then(|layout| show(layout, metadata, offset, count, page))
         .unwrap_or_else(Part::refused)
 }
@@ -161,7 +167,7 @@ fn try_serve(
     source: &[u8],
     page: &[u8],
 ) -> Result<u32, Refusal> {
-    let layout = Layout::of_lengths(heap.len(), metadata.len())?;
+    let layout = Layout::of_buffers(heap.len(), metadata)?;
     match Request::read(request)? {
         Request::Allocate { size } => allocate(layout, metadata, size),
         Request::Free { offset } => free(layout, metadata, offset),
@@ -228,14 +234,31 @@ impl Request {
 static BITMAP_STARTS: [[usize; CLASSES + 1]; LAYOUTS] = bitmap_starts();
 
 const fn bitmap_starts() -> [[usize; CLASSES + 1]; LAYOUTS] {
-    let mut table = [[STATE_LENGTH; CLASSES + 1]; LAYOUTS];
+    let mut table = [[FIELDS_LENGTH; CLASSES + 1]; LAYOUTS];
     let mut row = 0;
     while row < LAYOUTS {
-        let region = 1usize << (REGION_SHIFTS.start + row as u32);
+        let layout = Layout::of_row(row);
         let mut class = 0;
         while class < CLASSES {
-            let slots = region >> (SMALLEST_SLOT_SHIFT + class as u32);
-            table[row][class + 1] = table[row][class] + slots.div_ceil(8);
+            let length = layout.slots(class).div_ceil(8);
+            table[row][class + 1] = table[row][class] + length;
+            class += 1;
+        }
+        row += 1;
+    }
+    table
+}
+
+/// How many objects each class takes, for each region length.
+static CAPACITIES: [[u32; CLASSES]; LAYOUTS] = capacities();
+
+const fn capacities() -> [[u32; CLASSES]; LAYOUTS] {
+    let mut table = [[0; CLASSES]; LAYOUTS];
+    let mut row = 0;
+    while row < LAYOUTS {
+        let mut class = 0;
+        while class < CLASSES {
+            table[row][class] = Layout::of_row(row).capacity(class);
             class += 1;
         }
         row += 1;
@@ -257,6 +280,13 @@ struct Slot {
 }
 
 impl Layout {
+    /// The layout of a row in the tables.
+    const fn of_row(row: usize) -> Layout {
+        Layout {
+            shift: REGION_SHIFTS.start + row as u32,
+        }
+    }
+
     fn of_heap(heap_len: usize) -> Result<Layout, Refusal> {
         let region = heap_len / CLASSES;
         let shift = region.trailing_zeros();
@@ -277,8 +307,23 @@ impl Layout {
         }
     }
 
+    /// The layout of a heap that requests are for. Whatever a request's class
+    /// is, no count may be above its class's capacity.
+    #[inline]
+    fn of_buffers(heap_len: usize, metadata: &[u8]) -> Result<Layout, Refusal> {
+        let layout = Layout::of_lengths(heap_len, metadata.len())?;
+        if any_above(metadata, &CAPACITIES[layout.row()]) {
+            return Err(Refusal::CorruptMetadata);
+        }
+        Ok(layout)
+    }
+
+    fn row(self) -> usize {
+        (self.shift - REGION_SHIFTS.start) as usize
+    }
+
     fn starts(self) -> &'static [usize; CLASSES + 1] {
-        &BITMAP_STARTS[(self.shift - REGION_SHIFTS.start) as usize]
+        &BITMAP_STARTS[self.row()]
     }
 
     fn metadata_length(self) -> usize {
@@ -289,8 +334,13 @@ impl Layout {
         CLASSES << self.shift
     }
 
-    fn slots(self, class: usize) -> usize {
+    const fn slots(self, class: usize) -> usize {
         (1 << self.shift) >> slot_shift(class)
+    }
+
+    /// Half of the slots, rounded down.
+    const fn capacity(self, class: usize) -> u32 {
+        (self.slots(class) / 2) as u32
     }
 
     fn bitmap(self, class: usize) -> Range<usize> {
@@ -314,7 +364,7 @@ impl Layout {
     }
 }
 
-fn slot_shift(class: usize) -> u32 {
+const fn slot_shift(class: usize) -> u32 {
     SMALLEST_SLOT_SHIFT + class as u32
 }
 
@@ -322,6 +372,32 @@ fn slot_shift(class: usize) -> u32 {
 fn class_of(size: u32) -> usize {
     let shift = size.next_power_of_two().trailing_zeros();
     shift.saturating_sub(SMALLEST_SLOT_SHIFT) as usize
+}
+
+// --- The fields ---
+
+fn word(metadata: &[u8], at: usize) -> u32 {
+    let bytes = &metadata[at..at + 4];
+    u32::from_le_bytes(bytes.try_into().expect("four bytes"))
+}
+
+fn set_word(metadata: &mut [u8], at: usize, word: u32) {
+    metadata[at..at + 4].copy_from_slice(&word.to_le_bytes());
+}
+
+fn live_count(metadata: &[u8], class: usize) -> u32 {
+    word(metadata, COUNTS_START + 4 * class)
+}
+
+fn set_live_count(metadata: &mut [u8], class: usize, count: u32) {
+    set_word(metadata, COUNTS_START + 4 * class, count);
+}
+
+/// Whether a class's live count is above its capacity.
+fn any_above(metadata: &[u8], capacities: &[u32; CLASSES]) -> bool {
+    let (counts, _) = metadata[COUNTS_START..FIELDS_LENGTH].as_chunks();
+    let mut pairs = counts.iter().zip(capacities);
+    pairs.any(|(&count, &capacity)| u32::from_le_bytes(count) > capacity)
 }
 
 // --- The generator ---
@@ -335,23 +411,15 @@ struct Generator {
 
 impl Generator {
     fn load(metadata: &[u8]) -> Generator {
-        let word = |at: usize| {
-            u32::from_le_bytes([
-                metadata[at],
-                metadata[at + 1],
-                metadata[at + 2],
-                metadata[at + 3],
-            ])
-        };
         Generator {
-            z: word(0),
-            w: word(4),
+            z: word(metadata, 0),
+            w: word(metadata, 4),
         }
     }
 
     fn store(self, metadata: &mut [u8]) {
-        metadata[0..4].copy_from_slice(&self.z.to_le_bytes());
-        metadata[4..8].copy_from_slice(&self.w.to_le_bytes());
+        set_word(metadata, 0, self.z);
+        set_word(metadata, 4, self.w);
     }
 
     /// Neither product overflows: the larger is 36,969 × 65,535 + 65,535.
@@ -368,35 +436,20 @@ fn is_live(bitmap: &[u8], index: usize) -> bool {
     bitmap[index / 8] & (1 << (index % 8)) != 0
 }
 
-/// Counts the live slots; bits beyond the last slot do not count.
-fn count_live(bitmap: &[u8], slots: usize) -> usize {
-    if slots < 8 {
-        let used = bitmap[0] & ((1 << slots) - 1);
-        return used.count_ones() as usize;
-    }
-    let words = bitmap.chunks_exact(8);
-    let rest: u32 = words.remainder().iter().map(|byte| byte.count_ones()).sum();
-    let whole: u32 = words
-        .map(|word| u64::from_le_bytes(word.try_into().expect("eight bytes")).count_ones())
-        .sum();
-    (whole + rest) as usize
-}
-
 /// Draws a clear slot, or walks to the next one after 32 draws of live slots.
-/// The caller has seen that fewer than half of the slots are live.
-fn choose_slot(generator: &mut Generator, bitmap: &[u8], slots: usize) -> usize {
+/// There is none where all slots are live: in metadata that no opening made.
+fn choose_slot(generator: &mut Generator, bitmap: &[u8], slots: usize) -> Option<usize> {
     let mut tested = 0;
     for _ in 0..MOST_DRAWS {
         // The number of slots is a power of two.
         tested = generator.draw() as usize & (slots - 1);
         if !is_live(bitmap, tested) {
-            return tested;
+            return Some(tested);
         }
     }
     (tested + 1..slots)
         .chain(0..tested)
         .find(|&index| !is_live(bitmap, index))
-        .expect("half of the slots are clear")
 }
 
 // --- The operations ---
@@ -410,14 +463,16 @@ fn allocate(layout: Layout, metadata: &mut [u8], size: u32) -> Result<u32, Refus
     if slots < 2 {
         return Err(Refusal::ClassTooSmall);
     }
-    let mut generator = Generator::load(metadata);
-    let bitmap = &mut metadata[layout.bitmap(class)];
-    if count_live(bitmap, slots) >= slots / 2 {
+    let live = live_count(metadata, class);
+    if live >= layout.capacity(class) {
         return Err(Refusal::ClassAtCapacity);
     }
-    let index = choose_slot(&mut generator, bitmap, slots);
+    let mut generator = Generator::load(metadata);
+    let bitmap = &mut metadata[layout.bitmap(class)];
+    let index = choose_slot(&mut generator, bitmap, slots).ok_or(Refusal::CorruptMetadata)?;
     bitmap[index / 8] |= 1 << (index % 8);
     generator.store(metadata);
+    set_live_count(metadata, class, live + 1);
     Ok(layout.slot_start(Slot { class, index }))
 }
 
@@ -426,11 +481,14 @@ fn free(layout: Layout, metadata: &mut [u8], offset: u32) -> Result<u32, Refusal
     if layout.slot_start(slot) != offset {
         return Err(Refusal::NotASlotStart);
     }
+    let live = live_count(metadata, slot.class);
     let bitmap = &mut metadata[layout.bitmap(slot.class)];
     if !is_live(bitmap, slot.index) {
         return Err(Refusal::NotAllocated);
     }
+    let left = live.checked_sub(1).ok_or(Refusal::CorruptMetadata)?;
     bitmap[slot.index / 8] &= !(1 << (slot.index % 8));
+    set_live_count(metadata, slot.class, left);
     Ok(1 << slot_shift(slot.class))
 }
 
@@ -567,9 +625,11 @@ fn sharers(blocks: &[u8], block_len: usize, first: usize, block: &[u8]) -> u32 {
 #[cfg(test)]
 mod tests {
     use super::*;
+    use crate::inputs::STUCK_W;
 
     const HEAP: usize = 12 * 4_096;
-    const METADATA: usize = 138;
+    const METADATA: usize = 186;
+    const BITMAPS: usize = 56;
 
     struct Bench {
         heap: Vec<u8>,
@@ -598,6 +658,31 @@ mod tests {
 
         fn serve(&mut self, request: &[u8], source: &[u8], page: &[u8]) -> Answer {
             serve(&mut self.heap, &mut self.metadata, request, source, page)
+        }
+
+        /// A class's live count, changed behind the functions' back.
+        fn set_count(&mut self, class: usize, count: u32) {
+            self.metadata[8 + 4 * class..12 + 4 * class].copy_from_slice(&count.to_le_bytes());
+        }
+
+        /// The live counts, which are the bitmaps' set bits too.
+        fn counts(&self) -> [u32; 12] {
+            let mut at = BITMAPS;
+            std::array::from_fn(|class| {
+                let length = (512usize >> class).div_ceil(8);
+                let bitmap = &self.metadata[at..at + length];
+                at += length;
+                let set = bitmap.iter().map(|byte| byte.count_ones()).sum();
+                assert_eq!(live_count(&self.metadata, class), set);
+                set
+            })
+        }
+
+        /// Whether this request is refused so, and changes no byte.
+        fn refuses(&mut self, operation: u8, argument: u32, number: u32) -> bool {
+            let (heap, metadata) = (self.heap.clone(), self.metadata.clone());
+            let answer = self.run(operation, argument, 0, b"text");
+            answer == refused(number) && self.heap == heap && self.metadata == metadata
         }
 
         /// A read, by its own call and as a request: both say the same, and
@@ -664,7 +749,7 @@ mod tests {
     fn metadata_after_the_first_allocation() {
         let bench = Bench::with_object();
         let mut expected = vec![0; METADATA];
-        for (at, byte) in [(0, 0x69), (1, 0x90), (4, 0x50), (5, 0x46), (18, 0x01)] {
+        for (at, byte) in [(0, 0x69), (1, 0x90), (4, 0x50), (5, 0x46), (8, 1), (66, 1)] {
             expected[at] = byte;
         }
         assert_eq!(bench.metadata, expected);
@@ -866,16 +951,128 @@ mod tests {
 
     #[test]
     fn metadata_lengths_of_the_document() {
-        assert_eq!(metadata_length(12 * 1_024), 42);
-        assert_eq!(metadata_length(12 * 4_096), 138);
-        assert_eq!(metadata_length(12 * 1_048_576), 32_768);
+        assert_eq!(metadata_length(12 * 1_024), 90);
+        assert_eq!(metadata_length(12 * 4_096), 186);
+        assert_eq!(metadata_length(12 * 1_048_576), 32_816);
         assert_eq!(metadata_length(12 * 512), 0);
         assert_eq!(metadata_length(12 * 2_097_152), 0);
     }
 
     #[test]
+    fn counts_follow_allocations_and_frees() {
+        let mut bench = Bench::open(1, 1);
+        let first = bench.run(0, 100, 0, &[]).value;
+        for size in [100, 8, 65, 2_048] {
+            assert_eq!(bench.run(0, size, 0, &[]).number, 0);
+        }
+        assert_eq!(bench.counts(), [1, 0, 0, 0, 3, 0, 0, 0, 1, 0, 0, 0]);
+        assert_eq!(bench.run(1, first, 0, &[]), served(128));
+        assert_eq!(bench.counts(), [1, 0, 0, 0, 2, 0, 0, 0, 1, 0, 0, 0]);
+        for (operation, argument) in [(1, first), (0, 2_048), (0, 4_096), (2, 0), (3, first)] {
+            bench.run(operation, argument, 0, b"text");
+            assert_eq!(bench.counts(), [1, 0, 0, 0, 2, 0, 0, 0, 1, 0, 0, 0]);
+        }
+        assert_eq!(open(&bench.heap, &mut bench.metadata, 7, 11), served(0));
+        assert_eq!(bench.counts(), [0; 12]);
+    }
+
+    #[test]
+    fn count_above_half_refuses_every_request() {
+        for (class, half) in [256, 128, 64, 32, 16, 8, 4, 2, 1, 0, 0, 0]
+            .into_iter()
+            .enumerate()
+        {
+            let mut bench = Bench::with_object();
+            bench.set_count(class, half);
+            assert_eq!(bench.run(2, 643, 0, &[]), served(5));
+            assert_eq!(bench.read(643, 9, b"page"), of_heap(643, 5));
+            for count in [half + 1, 1 << 31, (1 << 31) + half, u32::MAX - 1, u32::MAX] {
+                bench.set_count(class, count);
+                assert!((0..=7).all(|operation| bench.refuses(operation, 640, 13)));
+                assert_eq!(bench.serve(&[], &[], &[]), refused(13));
+                assert_eq!(bench.read(640, 9, b"page"), of_page(13, 0));
+            }
+            assert_eq!(open(&bench.heap, &mut bench.metadata, 1, 1), served(0));
+            assert_eq!(bench.run(0, 5, 0, &[]), served(640));
+        }
+    }
+
+    #[test]
+    fn lengths_are_checked_before_counts() {
+        let mut bench = Bench::with_object();
+        bench.set_count(0, 257);
+        let fields = bench.metadata[..BITMAPS].to_vec();
+        bench.metadata.pop();
+        assert_eq!(bench.run(7, 0, 0, &[]), refused(3));
+        assert_eq!(bench.read(640, 4, b"page"), of_page(3, 0));
+        bench.metadata.clear();
+        assert_eq!(bench.run(0, 8, 0, &[]), refused(3));
+        bench.metadata = fields;
+        assert_eq!(bench.run(0, 8, 0, &[]), refused(3));
+        bench.heap.pop();
+        assert_eq!(bench.run(0, 8, 0, &[]), refused(2));
+    }
+
+    #[test]
+    fn counts_are_believed() {
+        let mut bench = Bench::open(1, 1);
+        bench.set_count(0, 256);
+        assert!(bench.refuses(0, 8, 7));
+        bench.set_count(0, 255);
+        assert_eq!(bench.run(0, 8, 0, &[]), served(640));
+        assert!(bench.refuses(0, 8, 7));
+        bench.metadata[BITMAPS..BITMAPS + 64].fill(0x0F);
+        bench.set_count(0, 0);
+        assert_eq!(bench.run(0, 8, 0, &[]).number, 0);
+        assert_eq!(live_count(&bench.metadata, 0), 1);
+    }
+
+    #[test]
+    fn no_clear_slot() {
+        let mut bench = Bench::open(1, 1);
+        bench.metadata[BITMAPS..].fill(0xFF);
+        for size in [8, 16, 512, 1_024, 2_048] {
+            assert!(bench.refuses(0, size, 13));
+        }
+        assert!(bench.refuses(0, 16_385, 5));
+        assert!(bench.refuses(0, 4_096, 6));
+        bench.set_count(0, 256);
+        assert!(bench.refuses(0, 8, 7));
+        // One clear slot is found, wherever it lies.
+        for slot in [0, 1, 256, 510, 511] {
+            let mut bench = Bench::open(1, STUCK_W);
+            bench.metadata[BITMAPS..].fill(0xFF);
+            bench.metadata[BITMAPS + slot / 8] ^= 1 << (slot % 8);
+            assert_eq!(bench.run(0, 8, 0, &[]), served(8 * slot as u32));
+            assert!(bench.refuses(0, 8, 13));
+        }
+    }
+
+    #[test]
+    fn free_of_an_object_that_no_count_has() {
+        let mut bench = Bench::with_object();
+        bench.set_count(0, 0);
+        for (offset, number) in [(640, 13), (648, 10), (641, 9), (49_152, 8)] {
+            assert!(bench.refuses(1, offset, number));
+        }
+        assert_eq!(bench.run(2, 640, 0, &[]), served(8));
+        bench.set_count(0, 1);
+        assert_eq!(bench.run(1, 640, 0, &[]), served(8));
+        assert_eq!(bench.counts(), [0; 12]);
+    }
+
+    #[test]
+    fn class_of_one_slot_has_no_count() {
+        let mut bench = Bench::open(1, 1);
+        bench.metadata[BITMAPS..].fill(0xFF);
+        assert_eq!(bench.run(2, 9 * 4_096, 0, &[]), served(4_096));
+        assert!(bench.refuses(1, 9 * 4_096, 13));
+        assert!(bench.refuses(1, 10 * 4_096, 9));
+    }
+
+    #[test]
     fn walk_after_32_draws() {
-        let mut bench = Bench::open(1, 0x464F_FFFF);
+        let mut bench = Bench::open(1, STUCK_W);
         for expected in [20_352, 16_384, 16_512] {
             assert_eq!(bench.run(0, 128, 0, &[]), served(expected));
         }

@@ -15,6 +15,7 @@ pub enum Refusal {
     NotAllocated,
     InvalidVote,
     NoAgreement,
+    CorruptMetadata,
 }
 
 pub enum Answer {
@@ -39,6 +40,7 @@ impl Refusal {
             Refusal::NotAllocated => 10,
             Refusal::InvalidVote => 11,
             Refusal::NoAgreement => 12,
+            Refusal::CorruptMetadata => 13,
         }
     }
 }

@@ -13,7 +13,7 @@ fn serve_input() -> u8
     ensures { λ r. ⌜ (r ≡ 0) ⊎ (r ≡ 2) ⌝ }
 {
     let mut heap = [0u8; 49152];
-    let mut metadata = [0u8; 138];
+    let mut metadata = [0u8; 186];
     heap::open(&heap, &mut metadata, 1, 1);
     let mut input = [0u8; 16384];
     let mut out = io::large_buffer();

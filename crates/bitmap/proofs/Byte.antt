@@ -1,12 +1,11 @@
--- A byte's bits: setting one, clearing one, counting the lowest.
+-- A byte's bits: setting one, clearing one.
 use mathlib.Core.Path.{_≡_, refl, sym, ap, _∙_}
 use Prim.Native.Nat.{ℕ, zero, suc, _+_, _-_, _*_, _/_, _%_, _^_, _<_}
-use native.Mathlib.Nat.{zero-mul, sub-zero, mod-one, pow-suc, add-div-right}
-use native.Mathlib.Numerals.{add-one, one-add}
+use native.Mathlib.Nat.{zero-mul, sub-zero, pow-suc, add-div-right}
+use native.Mathlib.Numerals.{one-add}
 use native.Mathlib.Omega.{arith}
 use lib.Bits.{bitAnd, bitOr, bitXor, and-high, or-add-and, xor-add-and, xor-zero-r}
-use lib.Pow.{pow-pos, high-ones, shl-exact, shr-shr, field, mod-mod-pow}
-use lib.Count.{onesIn, ones, ones-step}
+use lib.Pow.{pow-pos, high-ones, shl-exact, shr-shr}
 
 -- a bit shifted to its place in a byte
 pub weight : (d k : ℕ) → d < 2 → k < 8 → d * 2 ^ k % 256 ≡ d * 2 ^ k
@@ -35,22 +34,6 @@ module _ (x k : ℕ) where
 
   pub clear-bit : k < 8 → bitXor x (x / 2 ^ k % 2 * 2 ^ k % 256) ≡ x - x / 2 ^ k % 2 * 2 ^ k
   clear-bit h = ap (bitXor x) (weight _ k (omega arith) h) ∙ xor-bit x (2 ^ k) _ (omega arith) and-bit
-
--- one more bit is one more to count
-pub ones-more : (r x : ℕ) → onesIn (suc r) x ≡ onesIn r x + x / 2 ^ r % 2
-unfolding onesIn
-ones-more zero x = omega arith
-ones-more (suc r) x =
-    let rest : onesIn (suc r) (x / 2) ≡ onesIn r (x / 2) + x / 2 ^ suc r % 2 =
-    rw (shr-shr x 1 r, one-add) at (ones-more r (x / 2)) in
-    omega arith
-
--- the r lowest bits are those of the remainder by 2 ^ r
-pub ones-mod : (r x : ℕ) → ones (x % 2 ^ r) ≡ onesIn r x
-unfolding ones onesIn
-ones-mod zero x = rw mod-one
-ones-mod (suc r) x =
-    ones-step (x % 2 ^ suc r) ∙ rw (← add-one r, mod-mod-pow x r 1, field x r 1, ones-mod r (x / 2))
 
 -- a bit above the lowest is one of the half
 bit-half : (x q : ℕ) → x / 2 ^ suc q % 2 ≡ x / 2 / 2 ^ q % 2

@@ -60,7 +60,7 @@ fn word_up_to(header: &[u8], at: usize, most: usize) -> usize
     least(wide(words::get(header, at)), most)
 }
 
-// Reads a header. No heap that there is room for has more than 266 bytes of metadata, so its length is never cut.
+// Reads a header. No heap that there is room for has more than 314 bytes of metadata, so its length is never cut.
 fn case_of(header: &[u8]) -> Case
     ensures { λ r. ⌜ r ≡ caseOf (now (header .entry)) ⌝ }
     ensures { λ r.

@@ -1,4 +1,5 @@
 pub mod Geometry
 pub mod Slots
 pub mod Doubling
+pub mod Halving
 pub mod Steps

@@ -2,7 +2,7 @@
 use Prim.Native.Nat.{ℕ, suc, _+_, _-_, _*_, _/_, _%_, _≤_, _<_}
 use mathlib.Core.Path.{_≡_, ap, _∙_}
 use native.Mathlib.Nat.{le-trans, pos-of-ne-zero, suc-mul, mul-le-mul-right, mod-lt}
-use native.Mathlib.Nat.{div-zero, div-mul-le-self, div-add-mod', div-lt-iff-lt-mul}
+use native.Mathlib.Nat.{div-zero, div-le-self, div-mul-le-self, div-add-mod', div-lt-iff-lt-mul}
 use native.Mathlib.Decide.{decLt}
 use native.Mathlib.Omega.{arith}
 use lib.Arith.{digits-div, digits-mod}
@@ -13,6 +13,10 @@ use Rattle.geometry.proofs.Geometry.{slot-size-past}
 -- where there is a slot, slots have bytes
 pub slot-size-pos : (G : Layout) (c i : ℕ) → i < slots G c → 0 < slotSize G c
 slot-size-pos G c i h = pos-of-ne-zero (λ e. let none : slots G c ≡ 0 = rw e (div-zero (G .region)) in omega arith)
+
+-- there are no more slots than a region has bytes
+pub slots-le : (G : Layout) (c : ℕ) → slots G c ≤ G .region
+slots-le G c = div-le-self (G .region) (slotSize G c)
 
 -- only a class below the last has slots
 pub slots-class : (G : Layout) (c i : ℕ) → i < slots G c → c < classes

@@ -57,9 +57,9 @@ locate G offset =
 
 -- ---- the metadata
 
--- the length of the fields before the bitmaps
+-- the length of the fields before the bitmaps: two words of four bytes, and one for each class
 abbrev pub header : ℕ
-header = 8
+header = 4 * (2 + classes)
 
 abbrev pub bitmapLength : Layout → ℕ → ℕ
 bitmapLength G c = (slots G c + 7) / 8

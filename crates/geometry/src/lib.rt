@@ -2,6 +2,8 @@
 mod table;
 
 use numbers::least;
+use numbers::power_quotient;
+use numbers::power_remainder;
 use numbers::quotient;
 use numbers::remainder;
 use numbers::wide;
@@ -24,8 +26,8 @@ const MEDIUM: usize = 256;
 
 const LARGE: usize = 1024;
 
-// The length of the metadata's fields before the bitmaps.
-const HEADER: usize = 8;
+// The length of the metadata's fields before the bitmaps: two words of four bytes, and one for each class.
+pub const HEADER: usize = 4 * (2 + CLASSES);
 
 // How a heap is laid out. A region length of 0 stands for no heap: it has no slots.
 pub struct Layout {
@@ -68,7 +70,7 @@ impl Layout {
         if class < CLASSES { 8 << class } else { 0 }
     }
 
-    fn slots(self, class: usize) -> usize
+    pub fn slots(self, class: usize) -> usize
         ensures { λ r. ⌜ (r ≡ slots self class) × (r < 4294967296) ⌝ }
     {
         quotient(wide(self.region), self.slot_size(class))
@@ -143,8 +145,8 @@ impl Layout {
     {
         let region = wide(self.region);
         let at = wide(offset);
-        let class = quotient(at, region);
-        let within = remainder(at, region);
+        let class = power_quotient(at, region);
+        let within = power_remainder(at, region);
         let size = self.slot_size(class);
         Location {
             class,
@@ -160,8 +162,8 @@ impl Layout {
         (self.slots(class) + 7) / 8
     }
 
-    // Where a class's bitmap starts in the metadata.
-    fn bitmap_start(self, class: usize) -> usize
+    // Where a class's bitmap starts in the metadata, summed up.
+    fn summed_start(self, class: usize) -> usize
         ensures { λ r. ⌜ (r ≡ bitmapAt self class) × (r ≤ header + classes * 536870912) ⌝ }
     {
         let last = least(class, CLASSES);
@@ -172,6 +174,21 @@ impl Layout {
             passed += 1;
         }
         at
+    }
+
+    // The same without a sum, as long as the bitmaps are whole bytes: then each is half as long as the one before, and
+    // all before a class are twice the first without the last.
+    fn bitmap_start(self, class: usize) -> usize
+        ensures { λ r. ⌜ (r ≡ bitmapAt self class) × (r ≤ header + classes * 536870912) ⌝ }
+    {
+        if class < CLASSES {
+            let region = wide(self.region);
+            let four = 4 * self.slot_size(class);
+            if region % four == 0 {
+                return HEADER + region / 32 - region / four;
+            }
+        }
+        self.summed_start(class)
     }
 
     // A bitmap ends where the next one starts.

@@ -1,4 +1,5 @@
 pub mod Part
+pub mod Admitting
 pub mod Allocating
 pub mod Live
 pub mod Freeing

@@ -1,5 +1,5 @@
 -- The part of the metadata that is lent as a class's bitmap, and the metadata when it is back.
-use Prim.Native.Nat.{ℕ, suc, _-_}
+use Prim.Native.Nat.{ℕ, suc, _-_, _≤_}
 use mathlib.Core.Path.{_≡_, _∙_}
 use mathlib.Core.List.{List, _++_}
 use native.Mathlib.Nat.{le-suc, add-sub-cancel-left}
@@ -7,8 +7,8 @@ use lib.ListN.{length, take, drop}
 use borrow.Rule.Slice.PartMut.{mid-len}
 use Rattle.geometry.specs.declared.Layout.{Layout}
 use Rattle.geometry.specs.declared.Part.{Part}
-use Rattle.geometry.specs.Layout.{slots, bitmapAt, bitmapLength, partOf}
-use Rattle.geometry.proofs.Geometry.{bitmap-rising, bitmap-inside}
+use Rattle.geometry.specs.Layout.{classes, header, slots, bitmapAt, bitmapLength, partOf}
+use Rattle.geometry.proofs.Geometry.{bitmap-after, bitmap-rising, bitmap-inside}
 use Rattle.writing.specs.Overwrite.{overwrite}
 use Rattle.rules.specs.Judge.{Fits}
 use Rattle.rules.specs.Metadata.{bitmapOf}
@@ -20,6 +20,10 @@ pub written-back : (p : Part) (m : List ℕ) {ys b : List ℕ} → Within p (len
 written-back p m {ys} within e kept =
     let size : length ys ≡ p .end - p .start = kept ∙ mid-len (p .start) (p .end) m (within .ends) in
     rw (← size, e)
+
+-- metadata that fits has its fields
+pub has-fields : (G : Layout) {h n : ℕ} → Fits G h n → header ≤ n
+has-fields G f = rw (f .metadata) (bitmap-after G classes)
 
 module _ (G : Layout) (c : ℕ) {p : Part} (of : p ≡ partOf G c) where
   -- it lies in metadata that fits

@@ -6,6 +6,7 @@ use lib.ListN.{take, drop}
 use Rattle.geometry.specs.declared.Layout.{Layout}
 use Rattle.geometry.specs.declared.Part.{Part}
 use Rattle.geometry.specs.Layout.{classes, slots, partOf}
+use Rattle.rules.specs.Metadata.{countOf}
 
 -- the bytes that are lent as a bitmap
 abbrev pub bitsOf : Part → List ℕ → List ℕ
@@ -16,8 +17,9 @@ pub record Within (p : Part) (metadataBytes : ℕ) : Type 0 where
   pub rises : p .start ≤ p .end
   pub ends : p .end ≤ metadataBytes
 
--- a slot of a class can be taken
-pub record Roomy (G : Layout) (c : ℕ) (part : Part) : Type 0 where
+-- a class counts fewer than it has slots
+pub record Roomy (G : Layout) (m : List ℕ) (c : ℕ) (part : Part) (count : ℕ) : Type 0 where
   pub class : c < classes
-  pub some : 0 < slots G c
   pub of : part ≡ partOf G c
+  pub counted : count ≡ countOf c m
+  pub few : count < slots G c

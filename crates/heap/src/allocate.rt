@@ -9,12 +9,16 @@ use geometry::Part;
 use numbers::wide;
 ghost use mathlib.Core.Path.{_≡_};
 ghost use Prim.Native.Nat.{_≤_, _<_};
+ghost use mathlib.Core.List.{[], _∷_};
+ghost use lib.Dec.{leb};
 ghost use lib.ListN.{length};
 ghost use Rattle.geometry.specs.Layout.{classes, longestRegion, heapLength, slots, slotStart};
 ghost use Rattle.answer.specs.Reply.{replyOf};
+ghost use Rattle.answer.specs.declared.Refusal.the-variants.{CorruptMetadata};
+ghost use Rattle.answer.specs.Checks.{_when_, checked};
 ghost use Rattle.rules.specs.Judge.{Fits};
-ghost use Rattle.rules.specs.Outcome.{reply, metadataAfter};
-ghost use Rattle.rules.specs.Allocate.{taken, allocate};
+ghost use Rattle.rules.specs.Outcome.{refused, reply, metadataAfter};
+ghost use Rattle.rules.specs.Allocate.{foundIn, taken, allocate};
 ghost use Rattle.heap.specs.Relied.{Roomy};
 
 // The value of a slot: where it starts in the heap.
@@ -25,17 +29,24 @@ fn slot_start(layout: Layout, class: usize, slot: usize) -> u32
     (class * wide(layout.region) + slot * layout.slot_size(class)) as u32
 }
 
-// Takes a slot of a class: draws it, sets its bit and stores the generator.
-fn take(metadata: &mut [u8], layout: Layout, class: usize, part: Part) -> Answer
-    requires { ⌜ Fits layout (heapLength layout) (length (now metadata)) × Roomy layout class part ⌝ }
+// Takes a slot of a class that counts so many: draws it, sets its bit, counts it and stores the generator. Metadata that
+// count fewer than are set may have none clear.
+fn take(metadata: &mut [u8], layout: Layout, class: usize, part: Part, count: u32) -> Answer
+    requires { let m = now metadata in
+        ⌜ Fits layout (heapLength layout) (length m) × Roomy layout m class part count ⌝ }
     ensures { λ r.
         let m = now (metadata .entry) in
-        let outcome = taken layout m class in
+        let none = leb (slots layout class) (foundIn layout m class .slot) in
+        let outcome = checked refused (CorruptMetadata when none ∷ []) (taken layout m class) in
         ⌜ (replyOf r ≡ reply layout outcome) × (now (metadata .exit) ≡ metadataAfter layout m outcome) ⌝ }
 {
     let found = bits::find(metadata, part, fields::generator(metadata));
     let slot = found.slot;
+    if part.slots <= slot {
+        return Answer::Refused(Refusal::CorruptMetadata);
+    }
     bits::set(metadata, part, slot);
+    fields::store_count(metadata, class, count + 1);
     fields::store(metadata, found.generator);
     Answer::Served(slot_start(layout, class, slot))
 }
@@ -55,8 +66,9 @@ pub fn allocate(metadata: &mut [u8], layout: Layout, size: u32) -> Answer
     if part.slots < 2 {
         return Answer::Refused(Refusal::ClassTooSmall);
     }
-    if part.slots / 2 <= bits::count(metadata, part) {
+    let count = fields::count(metadata, class);
+    if part.slots / 2 <= wide(count) {
         return Answer::Refused(Refusal::ClassAtCapacity);
     }
-    take(metadata, layout, class, part)
+    take(metadata, layout, class, part, count)
 }

@@ -4,7 +4,7 @@ use mwc::Generator;
 use rules::Found;
 ghost use mathlib.Core.Path.{_≡_};
 ghost use lib.ListN.{length};
-ghost use Rattle.bitmap.specs.Bitmap.{isSet, setSlot, clearSlot, countSet};
+ghost use Rattle.bitmap.specs.Bitmap.{isSet, setSlot, clearSlot};
 ghost use Rattle.writing.specs.Overwrite.{overwrite};
 ghost use Rattle.rules.specs.Allocate.{draws, probe};
 ghost use Rattle.heap.specs.Relied.{Within, bitsOf};
@@ -16,15 +16,6 @@ pub fn is_set(metadata: &[u8], part: Part, slot: usize) -> bool
     let start = part.start;
     let end = part.end;
     bitmap::is_set(&metadata[start..end], part.slots, slot)
-}
-
-pub fn count(metadata: &[u8], part: Part) -> usize
-    requires { ⌜ Within part (length (now metadata)) ⌝ }
-    ensures { λ r. ⌜ r ≡ countSet (bitsOf part (now (metadata .entry))) (part .slots) ⌝ }
-{
-    let start = part.start;
-    let end = part.end;
-    bitmap::count(&metadata[start..end], part.slots)
 }
 
 // The slot that the draws choose, or the next clear one.

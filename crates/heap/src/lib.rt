@@ -1,4 +1,5 @@
 // The heap: opening, seven operations and one entry point for requests, and reads with plain arguments.
+mod admission;
 mod allocate;
 mod bits;
 mod copy;
@@ -112,7 +113,12 @@ pub fn serve(
 {
     match judge::lengths(heap.len(), metadata.len()) {
         Judged::Unfit(refusal) => Answer::Refused(refusal),
-        Judged::Laid(layout) => act(heap, metadata, layout, request, source, page),
+        Judged::Laid(layout) => {
+            if admission::any_over(metadata, layout) {
+                return Answer::Refused(Refusal::CorruptMetadata);
+            }
+            act(heap, metadata, layout, request, source, page)
+        }
     }
 }
 
@@ -124,7 +130,12 @@ pub fn look(heap: &[u8], metadata: &[u8], offset: u32, count: u32, page: &[u8]) 
 {
     match judge::lengths(heap.len(), metadata.len()) {
         Judged::Unfit(refusal) => Looked::Refused(refusal),
-        Judged::Laid(layout) => reading::read(metadata, layout, offset, count, page.len()),
+        Judged::Laid(layout) => {
+            if admission::any_over(metadata, layout) {
+                return Looked::Refused(Refusal::CorruptMetadata);
+            }
+            reading::read(metadata, layout, offset, count, page.len())
+        }
     }
 }
 

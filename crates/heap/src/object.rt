@@ -1,5 +1,6 @@
 // Freeing an object, and its remaining size.
 use crate::bits;
+use crate::fields;
 use answer::Answer;
 use answer::Refusal;
 use geometry::CLASSES;
@@ -37,7 +38,12 @@ pub fn free(metadata: &mut [u8], layout: Layout, offset: u32) -> Answer
     if !bits::is_set(metadata, part, slot) {
         return Answer::Refused(Refusal::NotAllocated);
     }
+    let count = fields::count(metadata, class);
+    if count == 0 {
+        return Answer::Refused(Refusal::CorruptMetadata);
+    }
     bits::clear(metadata, part, slot);
+    fields::store_count(metadata, class, count - 1);
     Answer::Served(layout.slot_size(class) as u32)
 }
 

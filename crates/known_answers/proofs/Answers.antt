@@ -8,9 +8,9 @@ use lib.ListN.{length, getD}
 use Rattle.bytes.specs.Bytes.{indexOf, indexAfter}
 use Rattle.search.specs.First.{first}
 use Rattle.geometry.specs.Layout.{slotSize, bitmapAt}
-use Rattle.bitmap.specs.Bitmap.{putByte, countSet, nextClear}
+use Rattle.bitmap.specs.Bitmap.{putByte, nextClear}
 use Rattle.request.specs.Parse.{parse}
-use Rattle.rules.specs.Judge.{judge}
+use Rattle.rules.specs.Judge.{judge, admit}
 use Rattle.rules.specs.Allocate.{probe, allocate}
 use Rattle.rules.specs.Object.{free, space, remaining, copy}
 use Rattle.rules.specs.Read.{read}
@@ -21,7 +21,7 @@ use Rattle.vote.specs.Decide.{digits, leader, count, decide}
 use Rattle.alike.proofs.Equal.{alike-equal}
 use Rattle.known_answers.specs.Calls.{Row, row, numbers, opened, clear, answerTo, after, placeOf, showing, voting}
 use Rattle.known_answers.specs.Table.{table, start, oneObject, copying, bytesVoted}
-use Rattle.known_answers.specs.Further.{further, lastSet, firstSet, atCapacity, afterSeven, letters, kept, nearHalf, strayBits, onlySlotSet, shownThere}
+use Rattle.known_answers.specs.Further.{further, lastSet, firstSet, atCapacity, afterSeven, letters, kept, nearHalf, classFive, onlySlotSet, counting, shownThere}
 
 -- the two sides of each row are the same numbers
 allAlike : List Row → Bool
@@ -44,13 +44,13 @@ each (r ∷ rows) e (suc i) h = each rows (both (alike (r .computed) (r .expecte
 
 computes : allAlike table ≡ true
 unfolding allAlike table start answerTo after oneObject numbers copying bytesVoted voting row indexOf indexAfter first
-    slotSize bitmapAt putByte countSet nextClear parse judge probe allocate free space remaining copy serving opening alike
+    slotSize bitmapAt putByte nextClear parse judge admit probe allocate free space remaining copy serving opening alike
     tabulate digits leader count decide
 computes = refl
 
 further-computes : allAlike further ≡ true
-unfolding allAlike further lastSet firstSet atCapacity afterSeven letters kept nearHalf strayBits onlySlotSet shownThere opened clear answerTo after
-    start oneObject copying placeOf showing numbers voting row indexOf indexAfter first slotSize bitmapAt putByte countSet nextClear parse judge
+unfolding allAlike further lastSet firstSet atCapacity afterSeven letters kept nearHalf classFive onlySlotSet counting shownThere opened clear answerTo after
+    start oneObject copying placeOf showing numbers voting row indexOf indexAfter first slotSize bitmapAt putByte nextClear parse judge admit
     probe allocate free space remaining copy read serving opening alike tabulate digits leader count decide
 further-computes = refl
 

@@ -35,11 +35,11 @@ numbers a = a .number ∷ a .value ∷ []
 abbrev pub heapOf : ℕ → ℕ
 heapOf R = classes * R
 
--- the answer to an opening on metadata of some length
+-- the answer to an opening on metadata of some length, FF hex throughout
 unfoldable pub opened : ℕ → ℕ → ℕ → ℕ → List ℕ
-opened R metadataBytes z w = numbers (opening (heapOf R) (replicate metadataBytes 0) (setup z w) .answer)
+opened R metadataBytes z w = numbers (opening (heapOf R) (replicate metadataBytes 0xff) (setup z w) .answer)
 
--- metadata with clear bitmaps and any generator, of an opening or not
+-- metadata with clear bitmaps, counts of 0 and any generator, of an opening or not
 unfoldable pub clear : ℕ → ℕ → ℕ → List ℕ
 clear R z w = withGenerator (replicate (metadataLength (layoutOf (heapOf R))) 0) (seeds z w)
 

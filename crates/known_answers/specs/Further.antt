@@ -9,19 +9,19 @@ use Rattle.known_answers.specs.Calls.{Row, row, heapOf, opened, clear, a
 use Rattle.known_answers.specs.Calls.{copyString, copyPadded, read, answerTo, after, showing, voting}
 use Rattle.known_answers.specs.Table.{copying}
 
--- ---- regions of 4,096 bytes: class 4 has 32 slots of 128 bytes, and its bitmap is bytes 128 to 131
+-- ---- regions of 4,096 bytes: class 4 has 32 slots of 128 bytes, its bitmap is bytes 176 to 179 and its count byte 24
 
 -- w is one that draws leave as it is, so that each of the 32 tests slot 31, which is set
 unfoldable pub lastSet : List ℕ
-lastSet = set (clear 4_096 1 0x464fffff) 131 0x80
+lastSet = set (set (clear 4_096 1 0x464fffff) 179 0x80) 24 1
 
 -- each draw is 0, and slots 0, 1 and 3 are set
 unfoldable pub firstSet : List ℕ
-firstSet = set (clear 4_096 0 0) 128 0x0b
+firstSet = set (set (clear 4_096 0 0) 176 0x0b) 24 3
 
--- one of the two slots of class 8 is set
+-- one of the two slots of class 8 is set, and counted in byte 40
 unfoldable pub atCapacity : List ℕ
-atCapacity = set (clear 4_096 0x9069 0x4650) 136 0x01
+atCapacity = set (set (clear 4_096 0x9069 0x4650) 184 0x01) 40 1
 
 -- the paper's bench run before its last request; a measuring and what was refused leave no trace
 unfoldable pub afterSeven : List ℕ
@@ -35,18 +35,24 @@ letters n = take n (0x41 ∷ 0x42 ∷ 0x43 ∷ 0x44 ∷ 0x45 ∷ 0x46 ∷ 0x47 �
 unfoldable pub kept : ℕ → List ℕ
 kept n = replicate n 0xff
 
--- ---- regions of 1,024 bytes: class 5 has 4 slots (byte 39), class 7 one (byte 41, heap from 7,168), class 8 none
+-- ---- regions of 1,024 bytes: class 5 has 4 slots (byte 87), class 7 one (byte 89, heap from 7,168), class 8 none
 
--- of the 128 slots of class 0 the first 56 are set, and of the next eight those of a byte
-unfoldable pub nearHalf : ℕ → List ℕ
-nearHalf byte = take header (clear 1_024 1 1) ++ (replicate 7 0xff ++ (byte ∷ drop (header + 8) (clear 1_024 1 1)))
+-- of the 128 slots of class 0 the first 56 are set, and of the next eight those of a byte; the class counts so many
+unfoldable pub nearHalf : ℕ → ℕ → List ℕ
+nearHalf byte count =
+    let m : List ℕ = clear 1_024 1 1 in
+    set (take header m ++ (replicate 7 0xff ++ (byte ∷ drop (header + 8) m))) 8 count
 
--- bits beyond the slots of class 5, and one of a slot
-unfoldable pub strayBits : List ℕ
-strayBits = set (clear 1_024 1 1) 39 0xf1
+-- bits of slots of class 5, as many as byte 28 counts, and bits beyond its four slots
+unfoldable pub classFive : ℕ → ℕ → List ℕ
+classFive byte count = set (set (clear 1_024 1 1) 87 byte) 28 count
 
 unfoldable pub onlySlotSet : List ℕ
-onlySlotSet = set (clear 1_024 1 1) 41 0x01
+onlySlotSet = set (clear 1_024 1 1) 89 0x01
+
+-- clear bitmaps, and one byte of the counts
+unfoldable pub counting : ℕ → ℕ → List ℕ
+counting at byte = set (clear 1_024 1 1) at byte
 
 -- the slot of class 7 ends with 1, 2, 3 and 4; what is shown with a page of three bytes
 unfoldable pub shownThere : List ℕ → List ℕ → List ℕ
@@ -60,29 +66,52 @@ unfoldable pub further : List Row
 further =
     -- the walk goes round the end; z is that after 32 draws
     row (answerTo 4_096 lastSet (allocate 128)) (0 ∷ 16_384 ∷ [])
-    ∷ row (after 4_096 lastSet (allocate 128)) (set (set (clear 4_096 0x57e707d4 0x464fffff) 131 0x80) 128 0x01)
+    ∷ row (after 4_096 lastSet (allocate 128)) (set (set (set (clear 4_096 0x57e707d4 0x464fffff) 179 0x80) 176 0x01) 24 2)
     -- the walk goes up from the slot tested to the next clear one
     ∷ row (answerTo 4_096 firstSet (allocate 128)) (0 ∷ 16_640 ∷ [])
-    ∷ row (after 4_096 firstSet (allocate 128)) (set (clear 4_096 0 0) 128 0x0f)
+    ∷ row (after 4_096 firstSet (allocate 128)) (set (set (clear 4_096 0 0) 176 0x0f) 24 4)
     -- refused at capacity, with the generator where it was
     ∷ row (answerTo 4_096 atCapacity (allocate 2_048)) (7 ∷ 0 ∷ [])
     ∷ row (after 4_096 atCapacity (allocate 2_048)) atCapacity
-    -- bits beyond the slots are not counted, and kept: the third draw takes slot 3, and a free clears slot 0
-    ∷ row (answerTo 1_024 strayBits (allocate 256)) (0 ∷ 5_888 ∷ [])
-    ∷ row (drop header (after 1_024 strayBits (allocate 256))) (drop header (set (clear 1_024 1 1) 39 0xf9))
-    ∷ row (answerTo 1_024 strayBits (free 5_120)) (0 ∷ 256 ∷ [])
-    ∷ row (after 1_024 strayBits (free 5_120)) (set (clear 1_024 1 1) 39 0xf0)
+    -- bits beyond the slots are kept: the third draw takes slot 3, and a free clears slot 0
+    ∷ row (answerTo 1_024 (classFive 0xf1 1) (allocate 256)) (0 ∷ 5_888 ∷ [])
+    ∷ row (drop 8 (after 1_024 (classFive 0xf1 1) (allocate 256))) (drop 8 (classFive 0xf9 2))
+    ∷ row (answerTo 1_024 (classFive 0xf1 1) (free 5_120)) (0 ∷ 256 ∷ [])
+    ∷ row (after 1_024 (classFive 0xf1 1) (free 5_120)) (classFive 0xf0 0)
+    -- counts are believed: with 64 of 128 slots set and none counted one is taken, and with none set and 64 counted none
+    ∷ row (answerTo 1_024 (nearHalf 0xff 0) (allocate 0)) (0 ∷ 640 ∷ [])
+    ∷ row (answerTo 1_024 (counting 8 64) (allocate 0)) (7 ∷ 0 ∷ [])
+    -- refused as corrupt, before the request is read: 65 of 128 counted, one in a class of one slot and in one of none, and
+    -- 2^31, of which twice is 0 in 32 bits; half is not refused
+    ∷ row (answerTo 1_024 (counting 8 65) (requestBytes 7 0 0)) (13 ∷ 0 ∷ [])
+    ∷ row (after 1_024 (counting 8 65) (free 0)) (counting 8 65)
+    ∷ row (answerTo 1_024 (counting 36 1) (remaining 0)) (13 ∷ 0 ∷ [])
+    ∷ row (answerTo 1_024 (counting 52 1) (copyBytes 12_288)) (13 ∷ 0 ∷ [])
+    ∷ row (answerTo 1_024 (counting 11 0x80) (allocate 16_385)) (13 ∷ 0 ∷ [])
+    ∷ row (answerTo 1_024 (counting 8 64) (remaining 0)) (0 ∷ 0 ∷ [])
+    -- but after the lengths
+    ∷ row (answerTo 1_024 (drop 1 (counting 8 65)) (free 0)) (3 ∷ 0 ∷ [])
+    ∷ row (answerTo 1_536 (counting 8 65) (free 0)) (2 ∷ 0 ∷ [])
+    -- refused as corrupt, and nothing changed, z and w neither: an allocation that finds no clear slot, and a free where
+    -- none is counted; a clear slot is not allocated all the same
+    ∷ row (answerTo 1_024 (classFive 0x0f 1) (allocate 256)) (13 ∷ 0 ∷ [])
+    ∷ row (after 1_024 (classFive 0x0f 1) (allocate 256)) (classFive 0x0f 1)
+    ∷ row (answerTo 1_024 (classFive 0x01 0) (free 5_120)) (13 ∷ 0 ∷ [])
+    ∷ row (after 1_024 (classFive 0x01 0) (free 5_120)) (classFive 0x01 0)
+    ∷ row (answerTo 1_024 (classFive 0x01 0) (free 5_376)) (10 ∷ 0 ∷ [])
+    -- and the same of all slots set and two counted is at capacity
+    ∷ row (answerTo 1_024 (classFive 0x0f 2) (allocate 256)) (7 ∷ 0 ∷ [])
     -- a region without slots
     ∷ row (answerTo 1_024 (clear 1_024 1 1) (allocate 2_048)) (6 ∷ 0 ∷ [])
     ∷ row (answerTo 1_024 (clear 1_024 1 1) (free 8_192)) (9 ∷ 0 ∷ [])
     ∷ row (answerTo 1_024 (clear 1_024 1 1) (remaining 8_192)) (0 ∷ 0 ∷ [])
-    -- a region with one slot, clear and then set
+    -- a region with one slot, clear and then set; it may count none, so that it is not freed
     ∷ row (answerTo 1_024 (clear 1_024 1 1) (allocate 1_024)) (6 ∷ 0 ∷ [])
     ∷ row (answerTo 1_024 (clear 1_024 1 1) (free 7_168)) (10 ∷ 0 ∷ [])
     ∷ row (answerTo 1_024 (clear 1_024 1 1) (free 7_169)) (9 ∷ 0 ∷ [])
     ∷ row (answerTo 1_024 onlySlotSet (remaining 7_170)) (0 ∷ 1_022 ∷ [])
-    ∷ row (answerTo 1_024 onlySlotSet (free 7_168)) (0 ∷ 1_024 ∷ [])
-    ∷ row (after 1_024 onlySlotSet (free 7_168)) (clear 1_024 1 1)
+    ∷ row (answerTo 1_024 onlySlotSet (free 7_168)) (13 ∷ 0 ∷ [])
+    ∷ row (after 1_024 onlySlotSet (free 7_168)) onlySlotSet
     -- sizes and offsets
     ∷ row (classOf (layoutOf (heapOf 32_768)) 16_384 ∷ classOf (layoutOf (heapOf 32_768)) 16_385 ∷ []) (11 ∷ 12 ∷ [])
     ∷ row (classOf (layoutOf (heapOf 32_768)) 0 ∷ classOf (layoutOf (heapOf 32_768)) 1 ∷ []) (0 ∷ 0 ∷ [])
@@ -93,11 +122,12 @@ further =
     -- requests for nothing: the third draw takes slot 335, which has 8 bytes; a class with 63 of 128 slots live takes one
     -- more, and one with 64 none
     ∷ row (answerTo 4_096 afterSeven (allocate 0)) (0 ∷ 2_680 ∷ [])
-    ∷ row (after 4_096 afterSeven (allocate 0)) (set (set (clear 4_096 0x2a58ab6f 0x3b99e34f) 49 0x80) 128 0x01)
+    ∷ row (after 4_096 afterSeven (allocate 0))
+    (set (set (set (set (clear 4_096 0x2a58ab6f 0x3b99e34f) 8 1) 24 1) 97 0x80) 176 0x01)
     ∷ row (answerTo 4_096 (after 4_096 afterSeven (allocate 0)) (remaining 2_680)) (0 ∷ 8 ∷ [])
-    ∷ row (answerTo 1_024 (nearHalf 0x7f) (allocate 0)) (0 ∷ 640 ∷ [])
-    ∷ row (answerTo 1_024 (nearHalf 0xff) (allocate 0)) (7 ∷ 0 ∷ [])
-    ∷ row (after 1_024 (nearHalf 0xff) (allocate 0)) (nearHalf 0xff)
+    ∷ row (answerTo 1_024 (nearHalf 0x7f 63) (allocate 0)) (0 ∷ 640 ∷ [])
+    ∷ row (answerTo 1_024 (nearHalf 0xff 64) (allocate 0)) (7 ∷ 0 ∷ [])
+    ∷ row (after 1_024 (nearHalf 0xff 64) (allocate 0)) (nearHalf 0xff 64)
     -- strings into the 8 bytes at 640: 9 letters, and 8 with their zero, are clipped and closed; 8 letters, and 7 with
     -- their zero, just fit
     ∷ row (copying (copyString 640) (letters 9)) (0 ∷ 8 ∷ letters 7 ++ (0 ∷ kept 1))
@@ -121,10 +151,11 @@ further =
     ∷ row (shownThere (clear 1_024 1 1) (read 8_188 4_294_967_295)) (0 ∷ 3 ∷ 1 ∷ 0x70 ∷ 0x71 ∷ 0x72 ∷ [])
     ∷ row (shownThere onlySlotSet (read 8_192 1)) (0 ∷ 1 ∷ 1 ∷ 0x70 ∷ [])
     ∷ row (showing [] [] 1_024 (clear 1_024 1 1) (read 8_188 2)) (0 ∷ 0 ∷ 1 ∷ [])
-    -- refused reads, and what is no read, show the empty part of the page: past the end, on metadata a byte short, and
-    -- where a byte is set that must be zero
+    -- refused reads, and what is no read, show the empty part of the page: past the end, on metadata a byte short or with
+    -- too high a count, and where a byte is set that must be zero
     ∷ row (shownThere onlySlotSet (read 12_288 4)) (8 ∷ 0 ∷ 1 ∷ [])
     ∷ row (shownThere (drop 1 onlySlotSet) (read 8_188 4)) (3 ∷ 0 ∷ 1 ∷ [])
+    ∷ row (shownThere (set onlySlotSet 12 33) (read 8_188 4)) (13 ∷ 0 ∷ 1 ∷ [])
     ∷ row (shownThere onlySlotSet (set (read 8_188 4) 12 1)) (4 ∷ 0 ∷ 1 ∷ [])
     ∷ row (shownThere onlySlotSet (remaining 8_188)) (0 ∷ 4 ∷ 1 ∷ [])
     -- requests: the last operation, none such, a count where there is none, and 15 and 17 bytes
@@ -133,17 +164,17 @@ further =
     ∷ row (answerTo 1_024 (clear 1_024 1 1) (requestBytes 4 0 1)) (4 ∷ 0 ∷ [])
     ∷ row (answerTo 1_024 (clear 1_024 1 1) (drop 1 (remaining 0))) (4 ∷ 0 ∷ [])
     ∷ row (answerTo 1_024 (clear 1_024 1 1) (remaining 0 ++ (0 ∷ []))) (4 ∷ 0 ∷ [])
-    -- openings: the shortest and the longest heap, half and twice that, no power of two, metadata a byte off, and seeds
-    -- of 0
-    ∷ row (opened 1_024 42 1 1) (0 ∷ 0 ∷ [])
-    ∷ row (opened 1_048_576 32_768 1 1) (0 ∷ 0 ∷ [])
-    ∷ row (opened 512 42 1 1) (2 ∷ 0 ∷ [])
-    ∷ row (opened 2_097_152 65_536 1 1) (2 ∷ 0 ∷ [])
-    ∷ row (opened 1_536 42 1 1) (2 ∷ 0 ∷ [])
-    ∷ row (opened 1_024 41 1 1) (3 ∷ 0 ∷ [])
-    ∷ row (opened 1_024 43 0 0) (3 ∷ 0 ∷ [])
-    ∷ row (opened 1_024 42 0 1) (1 ∷ 0 ∷ [])
-    ∷ row (opened 1_024 42 1 0) (1 ∷ 0 ∷ [])
+    -- openings, of metadata with every count at its highest: the shortest and the longest heap, half and twice that, no
+    -- power of two, metadata a byte off, and seeds of 0
+    ∷ row (opened 1_024 90 1 1) (0 ∷ 0 ∷ [])
+    ∷ row (opened 1_048_576 32_816 1 1) (0 ∷ 0 ∷ [])
+    ∷ row (opened 512 90 1 1) (2 ∷ 0 ∷ [])
+    ∷ row (opened 2_097_152 65_584 1 1) (2 ∷ 0 ∷ [])
+    ∷ row (opened 1_536 90 1 1) (2 ∷ 0 ∷ [])
+    ∷ row (opened 1_024 89 1 1) (3 ∷ 0 ∷ [])
+    ∷ row (opened 1_024 91 0 0) (3 ∷ 0 ∷ [])
+    ∷ row (opened 1_024 90 0 1) (1 ∷ 0 ∷ [])
+    ∷ row (opened 1_024 90 1 0) (1 ∷ 0 ∷ [])
     -- votes: 2 and 17 replicas, blocks of 0 and 4,097 bytes; 3 and 16 replicas, blocks of 4,096 bytes
     ∷ row (voting (replicate 2 0x41) 2 1 1) (11 ∷ 0 ∷ 0 ∷ 0xff ∷ [])
     ∷ row (voting (replicate 17 0x41) 17 1 1) (11 ∷ 0 ∷ 0 ∷ 0xff ∷ [])

@@ -27,3 +27,23 @@ pub fn remainder(a: usize, b: usize) -> usize
 {
     if b == 0 { a } else { a % b }
 }
+
+// The same where b is most often a power of two: then nothing is divided.
+pub fn power_quotient(a: usize, b: usize) -> usize
+    ensures { λ r. ⌜ (r ≡ a / b) × (r ≤ a) ⌝ }
+{
+    let places = usize::trailing_zeros(b) % 64;
+    if b == 1 << places {
+        return a >> places;
+    }
+    quotient(a, b)
+}
+
+pub fn power_remainder(a: usize, b: usize) -> usize
+    ensures { λ r. ⌜ r ≡ a % b ⌝ }
+{
+    if b == 1 << usize::trailing_zeros(b) % 64 {
+        return a & b - 1;
+    }
+    remainder(a, b)
+}

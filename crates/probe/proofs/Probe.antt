@@ -1,16 +1,13 @@
 -- The draws that lead to a slot, one turn of the loop at a time.
 use Prim.Native.Nat.{ℕ, zero, suc, _-_, _%_, _≤_, _<_}
 use mathlib.Core.Path.{_≡_}
-use mathlib.Core.Bool.{Bool, true, false}
+use mathlib.Core.Bool.{true, false}
 use mathlib.Core.List.{List}
-use native.Mathlib.Nat.{mod-lt}
 use native.Mathlib.Numerals.{sub-one}
 use native.Mathlib.Omega.{arith}
 use Rattle.mwc.specs.declared.Generator.{Generator}
 use Rattle.mwc.specs.Draw.{next, drawn}
 use Rattle.bitmap.specs.Bitmap.{isSet, nextClear}
-use Rattle.bitmap.proofs.Walk.{next-le}
-use Rattle.rules.specs.declared.Found.{Found}
 use Rattle.rules.specs.Allocate.{probe}
 
 module _ (b : List ℕ) (n last : ℕ) (g : Generator) where
@@ -32,15 +29,3 @@ module _ (b : List ℕ) (n last : ℕ) (g : Generator) where
   unfolding probe
   probe-walk {left = zero} h e = rw e
   probe-walk {left = suc k} h e = absurd (omega arith)
-
--- the slot is one of the n, or n
-pub probe-le : (b : List ℕ) (n : ℕ) → 0 < n → (g : Generator) (last k : ℕ) → probe b n g last k .slot ≤ n
-unfolding probe
-probe-le b n h g last zero = next-le b n last
-probe-le b n h g last (suc k) =
-    let i : ℕ = drawn (next g) % n in
-    let below : i < n = mod-lt (drawn (next g)) h in
-    let chosen : Bool → Found =
-    λ t. elim t as (λ (u : Bool). Found) [ true ↦ probe b n (next g) i k | false ↦ record { slot = i; generator = next g } ] in
-    elim (isSet b n i) as (λ (t : Bool). chosen t .slot ≤ n)
-    [ true ↦ probe-le b n h (next g) i k | false ↦ omega arith ]

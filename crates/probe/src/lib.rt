@@ -1,6 +1,6 @@
 // Choosing a slot: draws, and then the next clear slot.
 use mwc::Generator;
-use numbers::remainder;
+use numbers::power_remainder;
 use numbers::wide;
 use rules::Found;
 ghost use mathlib.Core.Path.{_≡_};
@@ -17,7 +17,7 @@ pub fn find(bitmap: &[u8], slots: usize, start: Generator) -> Found
     let mut left: usize = DRAWS;
     while 0 < left {
         generator = generator.advance();
-        last = remainder(wide(generator.draw()), slots);
+        last = power_remainder(wide(generator.draw()), slots);
         if !bitmap::is_set(bitmap, slots, last) {
             return Found {
                 slot: last,

@@ -1,13 +1,12 @@
 -- What each way through the reader comes to, and what a request's bytes are read as.
-use Prim.Native.Nat.{ℕ, _/_, _%_, _^_, _<_}
-use mathlib.Core.Path.{_≡_, sym, _∙_}
+use Prim.Native.Nat.{ℕ, _^_, _<_}
+use mathlib.Core.Path.{_≡_, _∙_}
 use mathlib.Core.Bool.{true, false}
 use mathlib.Core.List.{List}
-use native.Mathlib.Nat.{div-div-eq-div-mul, div-add-mod', mod-eq-of-lt}
-use native.Mathlib.Omega.{arith}
 use borrow.Author.Tests.{eq-eqb, ne-eqb}
 use lib.ListN.{length, replicate}
 use Rattle.words.specs.Word.{wordOf, bytesOf, wordAt, putWord}
+use Rattle.words.proofs.Stored.{word-bytes}
 use Rattle.request.specs.declared.Parsed.the-variants.{Malformed}
 use Rattle.request.specs.Parse.{operation, countAllowed, requestSize, parse, requestBytes}
 
@@ -30,22 +29,14 @@ module _ (b : List ℕ) where
       unfolding parse
       whole at4 h = rw (← at4, eq-eqb (length b) requestSize sixteen, eq-eqb (wordAt b 12) 0 (rw at12 at zero-last), ← at0, ← at8, h)
 
--- a stored number is read as it was
-stored : (n : ℕ) → n < 2 ^ 32 → wordOf (bytesOf n) ≡ n
-stored n h =
-    let two : n / 65536 ≡ n / 256 / 256 = sym (div-div-eq-div-mul n 256 256) in
-    let three : n / 16777216 ≡ n / 65536 / 256 = sym (div-div-eq-div-mul n 65536 256) in
-    let top : n / 16777216 % 256 ≡ n / 16777216 = mod-eq-of-lt (omega arith) in
-    omega (arith, div-add-mod' n 256, div-add-mod' (n / 256) 256, div-add-mod' (n / 65536) 256)
-
 -- reading undoes encoding
 pub encoded : (code argument count : ℕ) → code < 2 ^ 32 → argument < 2 ^ 32 → count < 2 ^ 32 → countAllowed code count ≡ true
     → parse (requestBytes code argument count) ≡ operation code argument count
 unfolding parse
 encoded code argument count p q r h =
     let allowed : countAllowed (wordOf (bytesOf code)) (wordOf (bytesOf count)) ≡ true =
-    (λ i. countAllowed (stored code p i) (stored count r i)) ∙ h in
-    rw allowed (λ i. operation (stored code p i) (stored argument q i) (stored count r i))
+    (λ i. countAllowed (word-bytes code p i) (word-bytes count r i)) ∙ h in
+    rw allowed (λ i. operation (word-bytes code p i) (word-bytes argument q i) (word-bytes count r i))
 
 -- three words stored in sixteen zeros are a request's bytes
 pub words-stored : (code argument count : ℕ) {a b c : List ℕ} → a ≡ putWord (replicate requestSize 0) 0 code → b ≡ putWord a 4 argument

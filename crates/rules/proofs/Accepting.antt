@@ -10,11 +10,10 @@ use Rattle.search.specs.First.{first}
 use Rattle.geometry.specs.declared.Layout.{Layout}
 use Rattle.geometry.specs.Layout.{classes, classOf, slotSize, slots}
 use Rattle.geometry.proofs.Geometry.{longestSlot, class-none}
-use Rattle.bitmap.specs.Bitmap.{countSet}
 use Rattle.answer.specs.declared.Refusal.the-variants.{UnsupportedSize}
-use Rattle.rules.specs.Metadata.{bitmapOf}
+use Rattle.rules.specs.Metadata.{countOf}
 use Rattle.rules.specs.Outcome.{Outcome, refused, reply}
-use Rattle.rules.specs.Allocate.{allocate}
+use Rattle.rules.specs.Allocate.{foundIn, allocate}
 
 module _ (G : Layout) (m : List ℕ) where
   -- a request for nothing comes to what one for a byte comes to
@@ -34,7 +33,8 @@ module _ (G : Layout) (m : List ℕ) where
     -- and only there
     pub refused-longer : allocate G m size ≡ refused UnsupportedSize → longestSlot < size
     unfolding allocate number
-    refused-longer e = go (eqb c classes) refl (ltb n 2) refl (leb (n / 2) (countSet (bitmapOf G c m) n)) refl
+    refused-longer e =
+        go (eqb c classes) refl (ltb n 2) refl (leb (n / 2) (countOf c m)) refl (leb n (foundIn G m c .slot)) refl
       where
         c : ℕ
         c = classOf G size
@@ -43,8 +43,9 @@ module _ (G : Layout) (m : List ℕ) where
         n = slots G c
 
         go : (t : Bool) → eqb c classes ≡ t → (u : Bool) → ltb n 2 ≡ u
-            → (v : Bool) → leb (n / 2) (countSet (bitmapOf G c m) n) ≡ v → longestSlot < size
-        go true p u q v r = class-none G size .0 (eqb-true c classes p)
-        go false p true q v r = let f = rw (p, q) at (ap number e) in absurd (omega (arith, f))
-        go false p false q true r = let f = rw (p, q, r) at (ap number e) in absurd (omega (arith, f))
-        go false p false q false r = let f = rw (p, q, r) at (ap number e) in absurd (omega (arith, f))
+            → (v : Bool) → leb (n / 2) (countOf c m) ≡ v → (x : Bool) → leb n (foundIn G m c .slot) ≡ x → longestSlot < size
+        go true p u q v r x s = class-none G size .0 (eqb-true c classes p)
+        go false p true q v r x s = let f = rw (p, q) at (ap number e) in absurd (omega (arith, f))
+        go false p false q true r x s = let f = rw (p, q, r) at (ap number e) in absurd (omega (arith, f))
+        go false p false q false r true s = let f = rw (p, q, r, s) at (ap number e) in absurd (omega (arith, f))
+        go false p false q false r false s = let f = rw (p, q, r, s) at (ap number e) in absurd (omega (arith, f))

@@ -6,20 +6,25 @@ use mathlib.Core.List.{List, [], _∷_}
 use native.Mathlib.Decide.{ℕ-discrete}
 use native.Mathlib.Omega.{arith}
 use lib.Dec.{leb, ltb, eqb}
+use lib.ListN.{set, replicate}
 use borrow.Author.Tests.{ltb-true, lt-leb, eq-eqb, ne-eqb}
 use Rattle.search.specs.First.{first}
 use Rattle.geometry.specs.declared.Layout.{Layout}
-use Rattle.geometry.specs.Layout.{layoutOf, classes, classOf, slotSize, slots}
-use Rattle.bitmap.specs.Bitmap.{nextClear}
+use Rattle.geometry.specs.Layout.{layoutOf, classes, classOf, slotSize, slots, header, bitmapAt}
+use Rattle.bitmap.specs.Bitmap.{countSet, nextClear}
 use Rattle.request.specs.declared.Request.{Request}
 use Rattle.request.specs.declared.Request.the-variants.{Allocate, Free, Remaining, Copy, Read}
 use Rattle.request.specs.declared.Kind.the-variants.{Bytes}
 use Rattle.request.specs.declared.Parsed.{Parsed}
 use Rattle.request.specs.declared.Parsed.the-variants.{Whole, Malformed}
+use Rattle.answer.specs.declared.Refusal.the-variants.{CorruptMetadata}
+use Rattle.rules.specs.Metadata.{countOf, bitmapOf}
+use Rattle.rules.specs.Open.{Setup, fresh}
 use Rattle.rules.specs.Allocate.{probe, draws}
 use Rattle.rules.specs.Run.{Event}
 use Rattle.rules.specs.Pair.{Measures, Pair, allocations, frees, measurings, refusals}
-use Rattle.rules.specs.Live.{Object, without, objectsAfter, live, holding, ofClass, Sound}
+use Rattle.rules.specs.Live.{Object, without, objectsAfter, live, holding, ofClass, Sound, Counted, Never}
+use Rattle.rules.proofs.Tracking.{tracks-counted, fresh-tracks}
 
 -- a heap with regions of 1,024 bytes: class 0 has 128 slots of 8 bytes, class 5 has 4 of 256
 abbrev G : Layout
@@ -182,6 +187,45 @@ served-and-refused p = let e : _≡_ {A = ℕ} 1 3 = cc (pair-shares p) in omega
 two-kinds : Pair G (event (Allocate 5) 0 0) (event (Remaining 0) 0 0) → ⊥
 unfolding shared shares first slotSize
 two-kinds p = let e : _≡_ {A = ℕ} 0 2 = cc (pair-shares p) in omega arith
+
+-- ---- counts
+
+-- an opening's metadata counts nothing
+fresh-counted : (F : Layout) (s : Setup) → Counted F (fresh F s) []
+fresh-counted F s = tracks-counted F (fresh F s) [] (fresh-tracks F s)
+
+-- metadata of that heap with a byte for the first slots of class 0, and counts of classes 0 and 11
+abbrev counting : ℕ → ℕ → ℕ → List ℕ
+counting byte first last = set (set (set (replicate 90 0) 8 first) 52 last) header byte
+
+-- in class 0 one is set, counted and live
+one-counted : let m = counting 1 1 0 in
+    (countOf 0 m ≡ countSet (bitmapOf G 0 m) (slots G 0)) × (countOf 0 m ≡ ofClass 0 (object 0 0 ∷ []))
+unfolding countSet bitmapAt slotSize first ofClass
+one-counted = (refl, refl)
+
+-- near misses: one counted and live but not set, one counted and set but not live, and one counted in the last class alone
+none-set : Counted G (counting 0 1 0) (object 0 0 ∷ []) → ⊥
+unfolding countSet bitmapAt slotSize first
+none-set k = let e : _≡_ {A = ℕ} 1 0 = k .set 0 (omega arith) in omega arith
+
+none-live : Counted G (counting 1 1 0) [] → ⊥
+unfolding ofClass
+none-live k = let e : _≡_ {A = ℕ} 1 0 = k .objects 0 (omega arith) in omega arith
+
+one-in-the-last : Counted G (counting 0 0 1) [] → ⊥
+unfolding ofClass
+one-in-the-last k = let e : _≡_ {A = ℕ} 1 0 = k .objects 11 (omega arith) in omega arith
+
+-- a history with other refusals than one, and histories that have it first and last
+never-refused : Never CorruptMetadata (event (Free 640) 10 0 ∷ event (Allocate 5) 0 640 ∷ [])
+never-refused = (λ e. omega (arith, e), (λ e. omega (arith, e), tt))
+
+refused-first : Never CorruptMetadata (event (Free 640) 13 0 ∷ event (Allocate 5) 0 640 ∷ []) → ⊥
+refused-first n = n .0 refl
+
+refused-last : Never CorruptMetadata (event (Allocate 5) 0 640 ∷ event (Free 640) 13 0 ∷ []) → ⊥
+refused-last n = n .1 .0 refl
 
 -- ---- the limit of draws
 

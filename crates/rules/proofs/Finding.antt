@@ -6,7 +6,7 @@ use mathlib.Core.List.{List}
 use native.Mathlib.Nat.{mod-lt}
 use native.Mathlib.Omega.{arith}
 use lib.Dec.{leb, ltb, eqb}
-use borrow.Author.Tests.{leb-false, eqb-true, not-false}
+use borrow.Author.Tests.{leb-false, eqb-true, eqb-false, not-false}
 use Rattle.answer.specs.declared.Refusal.{Refusal}
 use Rattle.rules.specs.Outcome.{Outcome, refused, allocated, freed, told, shown}
 use Rattle.mwc.specs.declared.Generator.{Generator}
@@ -15,9 +15,9 @@ use Rattle.geometry.specs.declared.Layout.{Layout}
 use Rattle.geometry.specs.Layout.{classes, classOf, slots, heapLength, slotStart, locate}
 use Rattle.bitmap.specs.Bitmap.{isSet, countSet, bit}
 use Rattle.bitmap.proofs.Slot.{Clear, is-clear, is-set}
-use Rattle.bitmap.proofs.Walk.{next-finds}
-use Rattle.rules.specs.Metadata.{generatorOf, bitmapOf}
-use Rattle.rules.specs.Allocate.{probe, draws, allocate}
+use Rattle.bitmap.proofs.Walk.{next-clear, next-room}
+use Rattle.rules.specs.Metadata.{generatorOf, countOf, bitmapOf}
+use Rattle.rules.specs.Allocate.{probe, draws, foundIn, allocate}
 use Rattle.geometry.specs.declared.Location.{Location}
 use Rattle.geometry.proofs.Slots.{located-start}
 use Rattle.rules.specs.Object.{isLive, isStart, free}
@@ -35,22 +35,37 @@ pub passed : (t : Bool) (r : Refusal) (x y : Outcome) → Unrefused y → cond t
 passed true r x y s e = absurd (subst Unrefused (sym e) s)
 passed false r x y s e = (refl, e)
 
--- with room among the n slots the draws end at a clear one
-probe-finds : (b : List ℕ) (n : ℕ) → countSet b n < n → (g : Generator) (last k : ℕ) → Clear b n (probe b n g last k .slot)
-unfolding probe
-probe-finds b n room g last zero = next-finds b n last room
-probe-finds b n room g last (suc k) = go (isSet b n i) refl (probe-finds b n room (next g) i k)
-  where
-    i : ℕ
-    i = drawn (next g) % n
+module _ (b : List ℕ) (n : ℕ) where
+  -- a slot that the draws end at is clear
+  probe-clear : (g : Generator) (last k : ℕ) → probe b n g last k .slot < n → Clear b n (probe b n g last k .slot)
+  unfolding probe
+  probe-clear g last zero h = next-clear b n last h
+  probe-clear g last (suc k) h = go (isSet b n i) refl (probe-clear (next g) i k)
+    where
+      i : ℕ
+      i = drawn (next g) % n
 
-    go : (t : Bool) → isSet b n i ≡ t → Clear b n (probe b n (next g) i k .slot) → Clear b n (probe b n g last (suc k) .slot)
-    go true e rest = rw (e, probe) rest
-    go false e rest = rw (e, probe) (is-clear b n i (mod-lt (drawn (next g)) (omega arith)) e)
+      go : (t : Bool) → isSet b n i ≡ t → (probe b n (next g) i k .slot < n → Clear b n (probe b n (next g) i k .slot))
+          → Clear b n (probe b n g last (suc k) .slot)
+      go true e rest = rw (e, probe) (rest (rw (e, probe) at h))
+      go false e rest = rw (e, probe) (is-clear b n i (rw (e, probe) at h) e)
 
--- a clear slot of the size's class, of whose slots less than half were set
+  -- and where not all are set they end at one
+  pub probe-room : countSet b n < n → (g : Generator) (last k : ℕ) → probe b n g last k .slot < n
+  unfolding probe
+  probe-room room g last zero = next-room b n last room
+  probe-room room g last (suc k) = go (isSet b n i) refl (probe-room room (next g) i k)
+    where
+      i : ℕ
+      i = drawn (next g) % n
+
+      go : (t : Bool) → isSet b n i ≡ t → probe b n (next g) i k .slot < n → probe b n g last (suc k) .slot < n
+      go true e rest = rw (e, probe) rest
+      go false e rest = rw (e, probe) (mod-lt (drawn (next g)) (omega arith))
+
+-- a clear slot of the size's class, which counts less than half of its slots
 pub allocate-finds : (G : Layout) (m : List ℕ) (size : ℕ) {c i : ℕ} {g : Generator} → allocate G m size ≡ allocated c i g
-    → (c ≡ classOf G size) × Clear (bitmapOf G c m) (slots G c) i × (countSet (bitmapOf G c m) (slots G c) < slots G c / 2)
+    → (c ≡ classOf G size) × Clear (bitmapOf G c m) (slots G c) i × (countOf c m < slots G c / 2)
 unfolding allocate
 allocate-finds G m size {c} {i} e =
     let k : ℕ = classOf G size in
@@ -58,15 +73,17 @@ allocate-finds G m size {c} {i} e =
     let b : List ℕ = bitmapOf G k m in
     let held = passed (eqb k classes) _ _ _ tt e in
     let large = passed (ltb n 2) _ _ _ tt (held .1) in
-    let room = passed (leb (n / 2) (countSet b n)) _ _ _ tt (large .1) in
-    let half : countSet b n < n / 2 = leb-false (n / 2) (countSet b n) (room .0) in
-    let class : c ≡ k = cc (room .1) in
-    let slot : i ≡ probe b n (generatorOf m) 0 draws .slot = cc (room .1) in
-    rw (class, slot) (refl, probe-finds b n (omega arith) (generatorOf m) 0 draws, half)
+    let room = passed (leb (n / 2) (countOf k m)) _ _ _ tt (large .1) in
+    let found = passed (leb n (foundIn G m k .slot)) _ _ _ tt (room .1) in
+    let half : countOf k m < n / 2 = leb-false (n / 2) (countOf k m) (room .0) in
+    let below : foundIn G m k .slot < n = leb-false n (foundIn G m k .slot) (found .0) in
+    let class : c ≡ k = cc (found .1) in
+    let slot : i ≡ foundIn G m k .slot = cc (found .1) in
+    rw (class, slot) (refl, probe-clear b n (generatorOf m) 0 draws below, half)
 
--- a set slot that starts at the offset
+-- a set slot that starts at the offset, of a class that counts some
 pub free-finds : (G : Layout) (m : List ℕ) (offset : ℕ) {c i : ℕ} → free G m offset ≡ freed c i
-    → (offset ≡ slotStart G c i) × (i < slots G c) × (bit (bitmapOf G c m) i ≡ 1)
+    → (offset ≡ slotStart G c i) × (i < slots G c) × (bit (bitmapOf G c m) i ≡ 1) × (0 < countOf c m)
 unfolding free
 free-finds G m offset {c} {i} e =
     let l : Location = locate G offset in
@@ -76,6 +93,8 @@ free-finds G m offset {c} {i} e =
     let live = passed (not (isLive G m l)) _ _ _ tt (start .1) in
     let begins = and-eq-true-iff (eqb (l .into) 0) (ltb (l .slot) n) .0 (not-false (isStart G l) (start .0)) in
     let set = is-set (bitmapOf G (l .class) m) n (l .slot) (not-false (isLive G m l) (live .0)) in
-    let class : c ≡ l .class = cc (live .1) in
-    let slot : i ≡ l .slot = cc (live .1) in
-    rw (class, slot) (located-start G offset (eqb-true (l .into) 0 (begins .0)), set .0, set .1)
+    let counted = passed (eqb (countOf (l .class) m) 0) _ _ _ tt (live .1) in
+    let some : countOf (l .class) m ≡ 0 → ⊥ = eqb-false (countOf (l .class) m) 0 (counted .0) in
+    let class : c ≡ l .class = cc (counted .1) in
+    let slot : i ≡ l .slot = cc (counted .1) in
+    rw (class, slot) (located-start G offset (eqb-true (l .into) 0 (begins .0)), set .0, set .1, omega arith)

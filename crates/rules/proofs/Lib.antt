@@ -11,5 +11,6 @@ pub mod Showing
 pub mod Pairing
 pub mod Objects
 pub mod Tracking
+pub mod Sane
 pub mod Runs
 pub mod Examples

@@ -1,5 +1,5 @@
 -- Parts of the metadata read back after one is written.
-use Prim.Native.Nat.{ℕ, zero, suc, _+_, _≤_, _<_}
+use Prim.Native.Nat.{ℕ, zero, suc, _+_, _^_, _≤_, _<_}
 use mathlib.Core.Path.{_≡_, refl, ap, _∙_}
 use mathlib.Core.List.{List}
 use native.Mathlib.Decide.{decLt}
@@ -9,11 +9,11 @@ use Rattle.mwc.specs.declared.Generator.{Generator}
 use Rattle.geometry.specs.declared.Layout.{Layout}
 use Rattle.geometry.specs.Layout.{classes, header, bitmapAt, bitmapLength, metadataLength}
 use Rattle.geometry.proofs.Geometry.{bitmap-after, bitmap-before}
-use Rattle.words.specs.Word.{putWord}
-use Rattle.words.proofs.Stored.{put-length, put-after}
+use Rattle.words.specs.Word.{wordOf, putWord}
+use Rattle.words.proofs.Stored.{put-length, put-after, word-same, word-stored, word-before, word-after}
 use Rattle.writing.specs.Overwrite.{overwrite}
 use Rattle.writing.proofs.Parts.{part-here, part-before, part-after}
-use Rattle.rules.specs.Metadata.{withGenerator, bitmapOf}
+use Rattle.rules.specs.Metadata.{withGenerator, countAt, countOf, withCount, bitmapOf}
 
 -- ---- the fields
 
@@ -22,14 +22,35 @@ module _ (m : List ℕ) (g : Generator) where
   pub generator-length : length (withGenerator m g) ≡ length m
   generator-length = put-length (putWord m 0 (g .z)) 4 (g .w) ∙ put-length m 0 (g .z)
 
-  pub generator-after : (p : ℕ) → header ≤ p → drop p (withGenerator m g) ≡ drop p m
+  generator-after : (p : ℕ) → 8 ≤ p → drop p (withGenerator m g) ≡ drop p m
   generator-after p h = put-after (putWord m 0 (g .z)) 4 (g .w) p h ∙ put-after m 0 (g .z) p (omega arith)
 
--- ---- bitmaps
+  -- so it keeps the counts and the bitmaps
+  pub generator-counts : (c : ℕ) → countOf c (withGenerator m g) ≡ countOf c m
+  generator-counts c = ap wordOf (generator-after (countAt c) (omega arith))
 
--- the fields written leave every bitmap
-pub fields-written : (G : Layout) (m : List ℕ) (g : Generator) (c : ℕ) → bitmapOf G c (withGenerator m g) ≡ bitmapOf G c m
-fields-written G m g c = ap (take (bitmapLength G c)) (generator-after m g (bitmapAt G c) (bitmap-after G c))
+  pub generator-bitmaps : (G : Layout) (c : ℕ) → bitmapOf G c (withGenerator m g) ≡ bitmapOf G c m
+  generator-bitmaps G c = ap (take (bitmapLength G c)) (generator-after (bitmapAt G c) (omega (arith, bitmap-after G c)))
+
+-- a count stored is read back, and leaves those of the other classes and the bitmaps
+module _ (m : List ℕ) (c n : ℕ) where
+  pub count-length : length (withCount m c n) ≡ length m
+  count-length = put-length m (countAt c) n
+
+  pub count-written : header ≤ length m → c < classes → n < 2 ^ 32 → countOf c (withCount m c n) ≡ n
+  count-written room class h = word-stored m (countAt c) n (omega arith) h
+
+  pub count-other : (d : ℕ) → (d ≡ c → ⊥) → countOf d (withCount m c n) ≡ countOf d m
+  count-other d f = elim (decLt d c) [
+    | yes h ↦ word-before m (countAt c) n (countAt d) (omega arith)
+    | no h ↦ word-after m (countAt c) n (countAt d) (omega arith)
+  ]
+
+  pub count-bitmaps : (G : Layout) → c < classes → (d : ℕ) → bitmapOf G d (withCount m c n) ≡ bitmapOf G d m
+  count-bitmaps G class d =
+      ap (take (bitmapLength G d)) (put-after m (countAt c) n (bitmapAt G d) (omega (arith, bitmap-after G d)))
+
+-- ---- bitmaps
 
 module _ (G : Layout) (m : List ℕ) (fits : length m ≡ metadataLength G) (c : ℕ) (class : c < classes) where
   -- a class's bitmap lies within the metadata
@@ -53,6 +74,12 @@ module _ (G : Layout) (m : List ℕ) (fits : length m ≡ metadataLength G) (c :
               let after : bitmapAt G c + length b ≤ bitmapAt G d = omega (arith, bitmap-before G c d (omega arith)) in
               ap (take (bitmapLength G d)) (part-after m (bitmapAt G c) b before (bitmapAt G d) after)
         ]
+
+    -- nor does it touch a count
+    pub bitmap-counts : (d : ℕ) → d < classes → countOf d (overwrite m (bitmapAt G c) b) ≡ countOf d m
+    bitmap-counts d h =
+        word-same m (overwrite m (bitmapAt G c) b) (countAt d)
+        (part-before m (bitmapAt G c) b (omega (arith, bitmap-within)) (countAt d) 4 (omega (arith, bitmap-after G c)))
 
 -- of zeros every element is 0
 pub zeros : (n i : ℕ) → _≡_ {A = ℕ} (getD (replicate n 0) i 0) 0

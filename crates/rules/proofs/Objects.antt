@@ -81,6 +81,21 @@ module _ (G : Layout) where
       let (class′, slot′) = start-located d j k in
       (sym class ∙ ap (λ x. locate G x .class) e ∙ class′, sym slot ∙ ap (λ x. locate G x .slot) e ∙ slot′)
 
+  -- no object of another class starts where a slot does
+  pub starting-other : (c i d : ℕ) → i < slots G c → (d ≡ c → ⊥) → (os : List Object) → Slots G os → starting d (slotStart G c i) os ≡ 0
+  unfolding starting
+  starting-other c i d h n [] s = refl
+  starting-other c i d h n (o ∷ os) (s, rest) =
+      go (eqb (o .start) (slotStart G c i)) (eqb (o .class) d) refl refl (starting-other c i d h n os rest)
+    where
+      go : (t u : Bool) → eqb (o .start) (slotStart G c i) ≡ t → eqb (o .class) d ≡ u → starting d (slotStart G c i) os ≡ 0
+          → cond (t && u) 1 0 + starting d (slotStart G c i) os ≡ 0
+      go true true e f none =
+          let start : slotStart G (o .class) (s .slot) ≡ slotStart G c i = sym (s .starts) ∙ eqb-true (o .start) (slotStart G c i) e in
+          absurd (n (sym (eqb-true (o .class) d f) ∙ same-start (o .class) (s .slot) c i (s .within) h start .0))
+      go true false e f none = omega (arith, none)
+      go false u e f none = omega (arith, none)
+
   -- an object is one that starts where it does
   pub starting-self : (o : Object) (s : IsSlot G o) (os : List Object)
       → starting (o .class) (slotStart G (o .class) (s .slot)) (o ∷ os) ≡ suc (starting (o .class) (slotStart G (o .class) (s .slot)) os)

@@ -2,9 +2,8 @@
 use Prim.Native.Nat.{ℕ}
 use mathlib.Core.Path.{_≡_, refl, sym, ap, subst, _∙_}
 use mathlib.Core.List.{List}
-use lib.ListN.{length}
 use Rattle.geometry.specs.declared.Layout.{Layout}
-use Rattle.geometry.specs.Layout.{classOf, metadataLength}
+use Rattle.geometry.specs.Layout.{classOf}
 use Rattle.request.specs.declared.Request.{Request}
 use Rattle.request.specs.declared.Request.the-variants.{Allocate}
 use Rattle.request.specs.declared.Parsed.{Parsed}
@@ -15,6 +14,7 @@ use Rattle.rules.specs.Serve.{Lent, act}
 use Rattle.rules.specs.Pair.{Measures, Pair, allocations, frees, measurings, refusals}
 use Rattle.answer.proofs.Numbers.{refusal-number}
 use Rattle.rules.proofs.Refusing.{outcome-refused}
+use Rattle.rules.proofs.Effects.{Valid}
 use Rattle.rules.proofs.Results.{Change, Result, refusal, allocation, freeing, measuring, result, made, same-change, stepBy, eventBy}
 
 module _ (G : Layout) (m : List ℕ) where
@@ -41,18 +41,18 @@ module _ (G : Layout) (m : List ℕ) where
   result-pair (allocation s c found takes) (allocation t d found′ takes′) e v = allocations s t refl refl (cc) refl refl
   result-pair (freeing offset start ends) (freeing offset′ start′ ends′) e v = frees offset refl (cc) refl refl
 
-  module _ (fits : length m ≡ metadataLength G) (lent lent′ : Lent) (p q : Parsed) where
+  module _ (valid : Valid G m) (lent lent′ : Lent) (p q : Parsed) where
     -- pairs have equal steps
     pub pair-steps : Pair G (eventBy G p (act G m lent p)) (eventBy G q (act G m lent′ q))
         → stepBy G m (act G m lent p) ≡ stepBy G m (act G m lent′ q)
     pair-steps (allocations s t e e′ c h k) =
-        let left = allocation-class s (result G m fits lent (Whole (Allocate s)) .1) (rw e at h) in
-        let right = allocation-class t (result G m fits lent′ (Whole (Allocate t)) .1) (rw e′ at k) in
+        let left = allocation-class s (result G m valid lent (Whole (Allocate s)) .1) (rw e at h) in
+        let right = allocation-class t (result G m valid lent′ (Whole (Allocate t)) .1) (rw e′ at k) in
         rw (e, e′, left, right, c)
     pair-steps (frees offset e e′ h k) = rw (e, e′)
     pair-steps (measurings a b e e′ h k s s′ v) =
-        let left : metadataAfter G m (act G m lent p) ≡ m = rw e (measuring-keeps a (result G m fits lent (Whole a) .1) h) in
-        let right : metadataAfter G m (act G m lent′ q) ≡ m = rw e′ (measuring-keeps b (result G m fits lent′ (Whole b) .1) k) in
+        let left : metadataAfter G m (act G m lent p) ≡ m = rw e (measuring-keeps a (result G m valid lent (Whole a) .1) h) in
+        let right : metadataAfter G m (act G m lent′ q) ≡ m = rw e′ (measuring-keeps b (result G m valid lent′ (Whole b) .1) k) in
         λ i. record { answer = record { number = (s ∙ sym s′) i; value = v i }; metadata = (left ∙ sym right) i }
     pair-steps (refusals h e) =
         let left = outcome-refused G m (act G m lent p) h in
@@ -66,8 +66,8 @@ module _ (G : Layout) (m : List ℕ) where
     pub steps-pair : stepBy G m (act G m lent p) ≡ stepBy G m (act G m lent′ q)
         → Pair G (eventBy G p (act G m lent p)) (eventBy G q (act G m lent′ q))
     steps-pair e =
-        let (x, left) = result G m fits lent p in
-        let (y, right) = result G m fits lent′ q in
-        let same : y ≡ x = same-change G m _ y x (rw (ap (λ s. s .metadata) e) (made G m fits right)) (made G m fits left) in
+        let (x, left) = result G m valid lent p in
+        let (y, right) = result G m valid lent′ q in
+        let same : y ≡ x = same-change G m _ y x (rw (ap (λ s. s .metadata) e) (made G m valid right)) (made G m valid left) in
         result-pair left (subst (Result G m q (act G m lent′ q)) same right)
         (ap (λ s. s .answer .number) e) (ap (λ s. s .answer .value) e)

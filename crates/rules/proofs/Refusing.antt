@@ -11,7 +11,7 @@ use Rattle.answer.specs.declared.Refusal.the-variants.{ZeroSeed}
 use Rattle.request.specs.Parse.{parse}
 use Rattle.rules.specs.declared.Judged.{Judged}
 use Rattle.rules.specs.declared.Judged.the-variants.{Laid, Unfit}
-use Rattle.rules.specs.Judge.{judge}
+use Rattle.rules.specs.Judge.{judge, admit}
 use Rattle.rules.specs.Open.{Setup}
 use Rattle.rules.specs.View.{noView}
 use Rattle.rules.specs.Outcome.{Outcome, refused, allocated, freed, told, shown}
@@ -41,9 +41,9 @@ outcome-refused G m (shown v) h = absurd (h refl)
 
 -- a request of any bytes, on metadata of any bytes and length
 pub call-refused : (n : ℕ) (m request : List ℕ) (beside : Lent) → Changeless m (call n m request beside)
-call-refused n m request beside = go (judge n (length m)) refl
+call-refused n m request beside = go (admit n m) refl
   where
-    go : (j : Judged) → judge n (length m) ≡ j → Changeless m (call n m request beside)
+    go : (j : Judged) → admit n m ≡ j → Changeless m (call n m request beside)
     go (Unfit r) e = rw (serving-unfit n m beside (parse request) e) (λ h. unserved-idle m r)
     go (Laid G) e = rw (serving-acts n m beside (parse request) e) (outcome-refused G m (act G m beside (parse request)))
 

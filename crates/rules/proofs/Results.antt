@@ -9,7 +9,7 @@ use native.Mathlib.Omega.{arith}
 use lib.ListN.{length}
 use Rattle.mwc.specs.declared.Generator.{Generator}
 use Rattle.geometry.specs.declared.Layout.{Layout}
-use Rattle.geometry.specs.Layout.{classOf, slots, slotStart, locate, metadataLength}
+use Rattle.geometry.specs.Layout.{classOf, slots, slotStart, locate}
 use Rattle.request.specs.declared.Kind.{Kind}
 use Rattle.request.specs.declared.Request.{Request}
 use Rattle.request.specs.declared.Request.the-variants.{Allocate, Free, Remaining, Copy, Read}
@@ -23,7 +23,7 @@ use Rattle.rules.specs.Read.{viewIn, read}
 use Rattle.rules.specs.Serve.{Lent, act}
 use Rattle.rules.specs.Run.{Step, Event}
 use Rattle.rules.specs.Pair.{Measures}
-use Rattle.rules.proofs.Effects.{liveBit, Takes, Ends, Changed, allocate-takes, allocate-changes, free-ends, free-changes}
+use Rattle.rules.proofs.Effects.{liveBit, Valid, Takes, Ends, Changed, allocate-takes, allocate-changes, free-ends, free-changes, changed-valid}
 
 -- ---- a request's outcome
 
@@ -92,18 +92,18 @@ module _ (G : Layout) (m : List ℕ) where
   served-or-refused p serves f = f refl
 
   -- every request has a result
-  pub result : length m ≡ metadataLength G → (lent : Lent) (p : Parsed) → (x : Change) × Result G m p (act G m lent p) x
-  result fits lent (Whole (Allocate size)) =
+  pub result : Valid G m → (lent : Lent) (p : Parsed) → (x : Change) × Result G m p (act G m lent p) x
+  result valid lent (Whole (Allocate size)) =
       served-or-refused _ (allocate-comes size)
-      (λ e. let (class, takes) = allocate-takes G m fits size e in (turn 1 _ _, allocation size class refl takes))
-  result fits lent (Whole (Free offset)) =
+      (λ e. let (class, takes) = allocate-takes G m valid size e in (turn 1 _ _, allocation size class refl takes))
+  result valid lent (Whole (Free offset)) =
       served-or-refused _ (free-comes offset)
-      (λ e. let (start, ends) = free-ends G m fits offset e in (turn 0 _ _, freeing offset start ends))
-  result fits lent (Whole (Remaining offset)) = served-or-refused _ (remaining-comes offset) (λ e. (none, measuring _ tt (record { served = refl; kept = refl })))
-  result fits lent (Whole (Copy offset kind)) = served-or-refused _ (copy-comes offset kind (lent .source)) (λ e. (none, measuring _ tt (record { served = refl; kept = refl })))
-  result fits lent (Whole (Read offset count)) =
+      (λ e. let (start, ends) = free-ends G m valid offset e in (turn 0 _ _, freeing offset start ends))
+  result valid lent (Whole (Remaining offset)) = served-or-refused _ (remaining-comes offset) (λ e. (none, measuring _ tt (record { served = refl; kept = refl })))
+  result valid lent (Whole (Copy offset kind)) = served-or-refused _ (copy-comes offset kind (lent .source)) (λ e. (none, measuring _ tt (record { served = refl; kept = refl })))
+  result valid lent (Whole (Read offset count)) =
       served-or-refused _ (read-comes offset count (length (lent .page))) (λ e. (none, measuring _ tt (record { served = refl; kept = refl })))
-  result fits lent Malformed = (none, refusal Malformed _)
+  result valid lent Malformed = (none, refusal Malformed _)
 
 -- ---- a change, in the metadata
 
@@ -113,19 +113,25 @@ Made G m m′ none = m′ ≡ m
 Made G m m′ (turn v c i) = (i < slots G c) × (liveBit G m c i + v ≡ 1) × Changed G m m′ c i v
 
 -- each result makes its change
-pub made : (G : Layout) (m : List ℕ) → length m ≡ metadataLength G → {p : Parsed} {o : Outcome} {x : Change}
-    → Result G m p o x → Made G m (metadataAfter G m o) x
-made G m fits (refusal p r) = refl
-made G m fits (allocation size {g} c found t) = (t .slot, omega arith, allocate-changes G m fits g t)
-made G m fits (freeing offset start t) = (t .slot, omega arith, free-changes G m fits t)
-made G m fits (measuring q h tells) = tells .kept
+module _ (G : Layout) (m : List ℕ) (valid : Valid G m) where
+  pub made : {p : Parsed} {o : Outcome} {x : Change} → Result G m p o x → Made G m (metadataAfter G m o) x
+  made (refusal p r) = refl
+  made (allocation size {g} c found t) = (t .slot, omega arith, allocate-changes G m valid g t)
+  made (freeing offset start t) = (t .slot, omega arith, free-changes G m valid t)
+  made (measuring q h tells) = tells .kept
+
+  -- and leaves valid metadata
+  pub result-valid : {p : Parsed} {o : Outcome} {x : Change} → Result G m p o x → Valid G (metadataAfter G m o)
+  result-valid (refusal p r) = valid
+  result-valid (allocation size {g} c found t) =
+      let now = allocate-changes G m valid g t in
+      changed-valid G m valid now (omega (arith, now .count, t .room, t .clear))
+  result-valid (freeing offset start t) =
+      let now = free-changes G m valid t in
+      changed-valid G m valid now (omega (arith, now .count, valid .few _ (t .class), t .set))
+  result-valid (measuring q h tells) = rw (tells .kept) valid
 
 module _ (G : Layout) (m m′ : List ℕ) where
-  -- the metadata keeps its length
-  pub made-length : (x : Change) → Made G m m′ x → length m′ ≡ length m
-  made-length none e = rw e
-  made-length (turn v c i) h = h .2 .fits
-
   -- a slot's bit does change
   moved : {v c i : ℕ} → Made G m m′ (turn v c i) → liveBit G m′ c i ≡ liveBit G m c i → ⊥
   moved h e = let here = h .2 .here in omega arith

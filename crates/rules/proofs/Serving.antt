@@ -1,23 +1,27 @@
--- Lengths that are judged right, and what serving comes to then.
-use Prim.Native.Nat.{ℕ}
-use mathlib.Core.Path.{_≡_, refl, sym, subst}
+-- Lengths and counts that are judged right, and what serving comes to then.
+use Prim.Native.Nat.{ℕ, _/_, _≤_, _<_}
+use mathlib.Core.Path.{_≡_, refl, sym, subst, _∙_}
 use mathlib.Core.Bool.{Bool, true, false}
 use mathlib.Core.List.{List}
-use native.Mathlib.Decide.{ℕ-discrete}
+use native.Mathlib.Decide.{ℕ-discrete, decLt}
 use native.Mathlib.Omega.{arith}
-use borrow.Author.Tests.{eq-eqb, ne-eqb, eqb-true, eqb-false}
+use borrow.Author.Tests.{eq-eqb, ne-eqb, eqb-true, eqb-false, le-ltb, ltb-true}
 use lib.Dec.{eqb}
 use lib.ListN.{length}
+use Rattle.search.specs.First.{first}
+use Rattle.search.proofs.First.{first-passes}
 use Rattle.geometry.specs.declared.Layout.{Layout}
-use Rattle.geometry.specs.Layout.{regionOf, layoutOf, metadataLength}
+use Rattle.geometry.specs.Layout.{classes, regionOf, layoutOf, slots, metadataLength}
 use Rattle.geometry.proofs.Geometry.{laid}
 use Rattle.request.specs.declared.Parsed.{Parsed}
 use Rattle.answer.specs.declared.Refusal.{Refusal}
-use Rattle.answer.specs.declared.Refusal.the-variants.{ZeroSeed, HeapLength, MetadataLength}
+use Rattle.answer.specs.declared.Refusal.the-variants.{ZeroSeed, HeapLength, MetadataLength, CorruptMetadata}
 use Rattle.answer.proofs.Numbers.{refusal-number}
 use Rattle.mwc.specs.Draw.{isUnusable}
+use Rattle.rules.specs.declared.Judged.{Judged}
 use Rattle.rules.specs.declared.Judged.the-variants.{Laid, Unfit}
-use Rattle.rules.specs.Judge.{judge, Fits}
+use Rattle.rules.specs.Metadata.{countOf}
+use Rattle.rules.specs.Judge.{judge, Fits, isOver, anyOver, admit}
 use Rattle.rules.specs.Open.{Setup, fresh}
 use Rattle.rules.specs.Serve.{Lent, act}
 use Rattle.rules.specs.Call.{calledBy, unserved, serving, openedBy, opening}
@@ -60,14 +64,53 @@ module _ (n k : ℕ) where
           let same : layoutOf n ≡ G = laid-same (rw (p, q) at e) in
           (sym same, subst (λ L. Fits L n k) same (fits (eqb-false (regionOf n) 0 p) (eqb-true k (metadataLength (layoutOf n)) q)))
 
+-- no class counts more than half of its slots
+pub none-over : (G : Layout) (m : List ℕ) → ((c : ℕ) → c < classes → countOf c m ≤ slots G c / 2) → anyOver G m ≡ false
+none-over G m few = le-ltb c classes (elim (decLt c classes) [
+  | yes h ↦
+      let over : slots G c / 2 < countOf c m = ltb-true (slots G c / 2) (countOf c m) (first-passes (isOver G m) 0 classes h) in
+      absurd (omega (arith, few c h))
+  | no h ↦ omega arith
+])
+  where
+    c : ℕ
+    c = first (isOver G m) 0 classes
+
+-- what each way through an admission comes to
+module _ (n : ℕ) (m : List ℕ) where
+  pub admit-unfit : {r : Refusal} → judge n (length m) ≡ Unfit r → admit n m ≡ Unfit r
+  unfolding admit
+  admit-unfit e = rw e
+
+  module _ {G : Layout} (laid : judge n (length m) ≡ Laid G) where
+    pub admit-over : anyOver G m ≡ true → admit n m ≡ Unfit CorruptMetadata
+    unfolding admit
+    admit-over e = rw (laid, e)
+
+    pub admit-laid : anyOver G m ≡ false → admit n m ≡ Laid G
+    unfolding admit
+    admit-laid e = rw (laid, e)
+
+  -- a layout that a request goes by is the heap's, and all fits it
+  pub admit-fits : {G : Layout} → admit n m ≡ Laid G → (G ≡ layoutOf n) × Fits G n (length m)
+  admit-fits {G} e = go (judge n (length m)) refl
+    where
+      go : (j : Judged) → judge n (length m) ≡ j → (G ≡ layoutOf n) × Fits G n (length m)
+      go (Unfit r) f = absurd (unfit-laid (sym (admit-unfit f) ∙ e))
+      go (Laid F) f = counted (anyOver F m) refl
+        where
+          counted : (t : Bool) → anyOver F m ≡ t → (G ≡ layoutOf n) × Fits G n (length m)
+          counted true o = absurd (unfit-laid (sym (admit-over f o) ∙ e))
+          counted false o = laid-fits n (length m) (f ∙ sym (admit-laid f o) ∙ e)
+
 module _ (n : ℕ) (m : List ℕ) (beside : Lent) (asked : Parsed) where
   -- then the request is acted on
-  pub serving-acts : {G : Layout} → judge n (length m) ≡ Laid G → serving n m beside asked ≡ calledBy G m (act G m beside asked)
+  pub serving-acts : {G : Layout} → admit n m ≡ Laid G → serving n m beside asked ≡ calledBy G m (act G m beside asked)
   unfolding serving
   serving-acts e = rw e
 
   -- and else refused
-  pub serving-unfit : {r : Refusal} → judge n (length m) ≡ Unfit r → serving n m beside asked ≡ unserved m r
+  pub serving-unfit : {r : Refusal} → admit n m ≡ Unfit r → serving n m beside asked ≡ unserved m r
   unfolding serving
   serving-unfit e = rw e
 

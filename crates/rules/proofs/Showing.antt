@@ -21,7 +21,7 @@ use Rattle.rules.specs.declared.View.{View}
 use Rattle.rules.specs.declared.Judged.{Judged}
 use Rattle.rules.specs.declared.Judged.the-variants.{Laid, Unfit}
 use Rattle.rules.specs.View.{bytesFrom, viewBytes}
-use Rattle.rules.specs.Judge.{judge}
+use Rattle.rules.specs.Judge.{admit}
 use Rattle.rules.specs.Outcome.{Outcome, shown, reply, viewOf}
 use Rattle.rules.specs.Object.{space}
 use Rattle.rules.specs.Read.{viewIn, read}
@@ -29,7 +29,7 @@ use Rattle.rules.specs.Serve.{lentWith}
 use Rattle.rules.specs.Call.{Call, calledBy, unserved, serving, call, reading}
 use Rattle.rules.proofs.Space.{space-within}
 use Rattle.rules.proofs.Results.{Comes, refuses, serves, read-comes}
-use Rattle.rules.proofs.Serving.{laid-fits, serving-unfit, serving-acts}
+use Rattle.rules.proofs.Serving.{admit-fits, serving-unfit, serving-acts}
 
 -- n bytes from a place on are bytes of a heap and a page of these lengths
 abbrev Ends : ℕ → ℕ → ℕ → Place → Type 0
@@ -74,14 +74,14 @@ counted G serves = refl
 
 -- for every input, refusals included
 module _ (n : ℕ) (m : List ℕ) (offset count : ℕ) (page : List ℕ) where
-  -- its lengths are not allowed, or it is carried out
+  -- its lengths or counts are not allowed, or it is carried out
   reading-comes : (P : Call → Type 0) → ((r : Refusal) → P (unserved m r))
       → ((G : Layout) → n ≡ heapLength G → P (calledBy G m (read G m offset count (length page)))) → P (reading n m offset count page)
-  reading-comes P unfit acts = go (judge n (length m)) refl
+  reading-comes P unfit acts = go (admit n m) refl
     where
-      go : (j : Judged) → judge n (length m) ≡ j → P (reading n m offset count page)
+      go : (j : Judged) → admit n m ≡ j → P (reading n m offset count page)
       go (Unfit r) e = rw (serving-unfit n m (lentWith [] page) (Whole (Read offset count)) e) (unfit r)
-      go (Laid G) e = rw (serving-acts n m (lentWith [] page) (Whole (Read offset count)) e) (acts G (laid-fits n (length m) e .1 .heap))
+      go (Laid G) e = rw (serving-acts n m (lentWith [] page) (Whole (Read offset count)) e) (acts G (admit-fits n m e .1 .heap))
 
   pub shown-lies : Lies n (length page) (reading n m offset count page .view)
   shown-lies =

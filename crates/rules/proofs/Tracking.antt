@@ -1,4 +1,4 @@
--- The live objects are the set slots.
+-- The live objects are the set slots, and are counted.
 use Prim.Native.Nat.{ℕ, zero, suc, _+_, _*_, _≤_, _<_}
 use mathlib.Core.Path.{_≡_, refl, sym, subst, _∙_}
 use mathlib.Core.List.{List, [], _∷_}
@@ -7,22 +7,22 @@ use native.Mathlib.Decide.{ℕ-discrete}
 use native.Mathlib.Omega.{arith}
 use borrow.Author.Tests.{eq-eqb, ne-eqb}
 use Rattle.geometry.specs.declared.Layout.{Layout}
-use Rattle.geometry.specs.Layout.{slots, slotStart}
+use Rattle.geometry.specs.Layout.{classes, slots, slotStart}
 use Rattle.bitmap.specs.Bitmap.{bit, countSet}
 use Rattle.request.specs.declared.Request.{Request}
 use Rattle.request.specs.declared.Request.the-variants.{Allocate, Free, Remaining, Copy, Read}
 use Rattle.request.specs.declared.Parsed.{Parsed}
 use Rattle.request.specs.declared.Parsed.the-variants.{Whole}
 use Rattle.answer.specs.Reply.{numberOf}
-use Rattle.rules.specs.Metadata.{bitmapOf}
+use Rattle.rules.specs.Metadata.{countOf, bitmapOf}
 use Rattle.rules.specs.Open.{Setup, fresh}
 use Rattle.rules.specs.Outcome.{Outcome}
 use Rattle.rules.specs.Pair.{Measures}
-use Rattle.rules.specs.Live.{Object, without, servedAfter, objectsAfter, ofClass, Sound}
+use Rattle.rules.specs.Live.{Object, without, servedAfter, objectsAfter, ofClass, Sound, Counted}
 use Rattle.answer.proofs.Numbers.{refusal-number}
-use Rattle.rules.proofs.Effects.{liveBit, Takes, fresh-clear}
+use Rattle.rules.proofs.Effects.{liveBit, Takes, fresh-none, fresh-clear}
 use Rattle.rules.proofs.Results.{Change, turn, Made, Result, refusal, allocation, freeing, measuring, eventBy}
-use Rattle.rules.proofs.Objects.{IsSlot, Slots, starting, without-slots, class-parts, starting-gone, starting-kept, same-start, starting-self, holding-one}
+use Rattle.rules.proofs.Objects.{IsSlot, Slots, starting, without-slots, class-parts, starting-gone, starting-kept, same-start, starting-other, starting-self, holding-one}
 
 -- ---- counts of a bitmap
 
@@ -44,11 +44,12 @@ module _ (b b′ : List ℕ) where
 
 -- ---- objects and metadata
 
--- the objects are slots, as many at each as its bit says, and in each class no more than are set, nor than half
+-- the objects are slots, as many at each as its bit says, and in each class as many as are set and as it counts, no more than half
 pub record Tracks (G : Layout) (m : List ℕ) (os : List Object) : Type 0 where
   pub are-slots : Slots G os
   pub bits : (c i : ℕ) → i < slots G c → starting c (slotStart G c i) os ≡ liveBit G m c i
-  pub counts : (c : ℕ) → ofClass c os ≤ countSet (bitmapOf G c m) (slots G c)
+  pub bits-set : (c : ℕ) → ofClass c os ≡ countSet (bitmapOf G c m) (slots G c)
+  pub counted : (c : ℕ) → c < classes → countOf c m ≡ ofClass c os
   pub half : (c : ℕ) → 2 * ofClass c os ≤ slots G c
 
 -- so they are sound
@@ -59,11 +60,27 @@ tracks-sound G m os t =
       half = λ c. omega (arith, t .half c);
     }
 
+-- and counted
+pub tracks-counted : (G : Layout) (m : List ℕ) (os : List Object) → Tracks G m os → Counted G m os
+tracks-counted G m os t = record { set = λ c h. t .counted c h ∙ t .bits-set c; objects = t .counted }
+
+-- of clear bits none is counted
+count-none : (b : List ℕ) (n : ℕ) → ((i : ℕ) → bit b i ≡ 0) → 0 ≡ countSet b n
+unfolding countSet
+count-none b zero h = refl
+count-none b (suc n) h = omega (arith, h n, count-none b n h)
+
 -- fresh metadata has no objects
 pub fresh-tracks : (G : Layout) (s : Setup) → Tracks G (fresh G s) []
 unfolding starting ofClass
 fresh-tracks G s =
-    record { are-slots = tt; bits = λ c i h. sym (fresh-clear G s c i); counts = λ c. omega arith; half = λ c. omega arith }
+    record {
+      are-slots = tt;
+      bits = λ c i h. sym (fresh-clear G s c i);
+      bits-set = λ c. count-none (bitmapOf G c (fresh G s)) (slots G c) (fresh-clear G s c);
+      counted = λ c h. fresh-none G s c;
+      half = λ c. omega arith;
+    }
 
 -- a measuring leaves the objects
 measuring-leaves : (G : Layout) (os : List Object) (q : Request) (value : ℕ) → Measures q → servedAfter G os (Whole q) value ≡ os
@@ -79,11 +96,11 @@ module _ (G : Layout) (m m′ : List ℕ) (os : List Object) (t : Tracks G m os)
       → (here : starting c (slotStart G c i) os′ ≡ v)
       → (elsewhere : (d y : ℕ) → (slotStart G c i ≡ y → ⊥) → starting d y os′ ≡ starting d y os)
       → (own : ofClass c os′ + liveBit G m c i ≡ ofClass c os + v)
-      → (others : (d : ℕ) → (d ≡ c → ⊥) → ofClass d os′ ≤ ofClass d os)
+      → (others : (d : ℕ) → (d ≡ c → ⊥) → ofClass d os′ ≡ ofClass d os)
       → (room : 2 * ofClass c os′ ≤ slots G c)
       → Tracks G m′ os′
   change-tracks {v} {c} {i} (slot, was, changed) os′ are-slots here elsewhere own others room =
-      record { are-slots = are-slots; bits = bits; counts = counts; half = half }
+      record { are-slots = are-slots; bits = bits; bits-set = bits-set; counted = counted; half = half }
     where
       bits : (d j : ℕ) → j < slots G d → starting d (slotStart G d j) os′ ≡ liveBit G m′ d j
       bits d j h = elim (Dec·and (ℕ-discrete d c) (ℕ-discrete j i)) [
@@ -91,19 +108,25 @@ module _ (G : Layout) (m m′ : List ℕ) (os : List Object) (t : Tracks G m os)
         | no n ↦ elsewhere d (slotStart G d j) (λ e. n (same-start G d j c i h slot (sym e))) ∙ t .bits d j h ∙ sym (changed .elsewhere d j h n)
       ]
 
-      counts : (d : ℕ) → ofClass d os′ ≤ countSet (bitmapOf G d m′) (slots G d)
-      counts d = elim (ℕ-discrete d c) [
+      bits-set : (d : ℕ) → ofClass d os′ ≡ countSet (bitmapOf G d m′) (slots G d)
+      bits-set d = elim (ℕ-discrete d c) [
         | yes p ↦ rw p (omega (
           arith,
-          t .counts c,
+          t .bits-set c,
           count-but-one (bitmapOf G c m) (bitmapOf G c m′) i (slots G c) slot (λ j h n. changed .elsewhere c j h (λ e. n (e .1))),
         ))
         | no n ↦ omega (
           arith,
           others d n,
-          t .counts d,
+          t .bits-set d,
           count-same (bitmapOf G d m) (bitmapOf G d m′) (slots G d) (λ j h. changed .elsewhere d j h (λ e. n (e .0))),
         )
+      ]
+
+      counted : (d : ℕ) → d < classes → countOf d m′ ≡ ofClass d os′
+      counted d h = elim (ℕ-discrete d c) [
+        | yes p ↦ rw p (omega (arith, changed .count, own, t .counted c (rw p at h)))
+        | no n ↦ changed .others d h n ∙ t .counted d h ∙ sym (others d n)
       ]
 
       half : (d : ℕ) → 2 * ofClass d os′ ≤ slots G d
@@ -120,7 +143,7 @@ module _ (G : Layout) (m m′ : List ℕ) (os : List Object) (t : Tracks G m os)
       (λ d y n. rw (ne-eqb (slotStart G c i) y n) (omega arith))
       (rw (eq-eqb c c refl) (omega arith))
       (λ d n. rw (ne-eqb c d (λ e. n (sym e))) (omega arith))
-      (rw (eq-eqb c c refl) (omega (arith, t .counts c)))
+      (rw (eq-eqb c c refl) (omega (arith, takes .room, t .counted c (takes .class))))
 
   free-tracks : {c i : ℕ} → Made G m m′ (turn 0 c i) → Tracks G m′ (without (slotStart G c i) os)
   free-tracks {c} {i} made =
@@ -129,7 +152,7 @@ module _ (G : Layout) (m m′ : List ℕ) (os : List Object) (t : Tracks G m os)
       (starting-gone x c os)
       (λ d y n. starting-kept x d y n os)
       (omega (arith, class-parts x c os, t .bits c i (made .0)))
-      (λ d n. omega (arith, class-parts x d os))
+      (λ d n. omega (arith, class-parts x d os, starting-other G c i d (made .0) n os (t .are-slots)))
       (omega (arith, class-parts x c os, t .half c))
 
   -- whatever a request comes to, the objects after it are those that the metadata after it has

@@ -7,11 +7,11 @@ use Rattle.mwc.specs.declared.Generator.{Generator}
 use Rattle.mwc.specs.Draw.{next, drawn}
 use Rattle.geometry.specs.declared.Layout.{Layout}
 use Rattle.geometry.specs.Layout.{classes, classOf, slots}
-use Rattle.bitmap.specs.Bitmap.{isSet, countSet, nextClear}
-use Rattle.answer.specs.declared.Refusal.the-variants.{UnsupportedSize, ClassTooSmall, ClassAtCapacity}
+use Rattle.bitmap.specs.Bitmap.{isSet, nextClear}
+use Rattle.answer.specs.declared.Refusal.the-variants.{UnsupportedSize, ClassTooSmall, ClassAtCapacity, CorruptMetadata}
 use Rattle.answer.specs.Checks.{_when_, checked}
 use Rattle.rules.specs.declared.Found.{Found}
-use Rattle.rules.specs.Metadata.{generatorOf, bitmapOf}
+use Rattle.rules.specs.Metadata.{generatorOf, countOf, bitmapOf}
 use Rattle.rules.specs.Outcome.{Outcome, refused, allocated}
 
 -- up to k draws, of which the first that meets a clear slot takes it; then the next clear slot above the last one
@@ -26,13 +26,14 @@ probe b n g last (suc k) =
 abbrev pub draws : ℕ
 draws = 32
 
--- in a class with room, the slot that the draws choose
-abbrev pub taken : Layout → List ℕ → ℕ → Outcome
-taken G m c =
-    let found : Found = probe (bitmapOf G c m) (slots G c) (generatorOf m) 0 draws in
-    allocated c (found .slot) (found .generator)
+-- what they find in a class, and the slot taken
+abbrev pub foundIn : Layout → List ℕ → ℕ → Found
+foundIn G m c = probe (bitmapOf G c m) (slots G c) (generatorOf m) 0 draws
 
--- a request for nothing is one of class 0
+abbrev pub taken : Layout → List ℕ → ℕ → Outcome
+taken G m c = allocated c (foundIn G m c .slot) (foundIn G m c .generator)
+
+-- a request for nothing is one of class 0; the class's count is believed, unless no slot is clear
 unfoldable pub allocate : Layout → List ℕ → ℕ → Outcome
 allocate G m size =
     let c : ℕ = classOf G size in
@@ -40,6 +41,7 @@ allocate G m size =
     checked refused
     (UnsupportedSize when eqb c classes
     ∷ ClassTooSmall when ltb n 2
-    ∷ ClassAtCapacity when leb (n / 2) (countSet (bitmapOf G c m) n)
+    ∷ ClassAtCapacity when leb (n / 2) (countOf c m)
+    ∷ CorruptMetadata when leb n (foundIn G m c .slot)
     ∷ [])
     (taken G m c)

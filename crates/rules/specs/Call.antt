@@ -14,7 +14,7 @@ use Rattle.answer.specs.declared.Refusal.the-variants.{ZeroSeed}
 use Rattle.answer.specs.Reply.{Reply, served, refusedBy}
 use Rattle.answer.specs.Checks.{_when_, checked}
 use Rattle.rules.specs.declared.View.{View}
-use Rattle.rules.specs.Judge.{judge, onceLaid}
+use Rattle.rules.specs.Judge.{judge, onceLaid, admit}
 use Rattle.rules.specs.Open.{Setup, fresh}
 use Rattle.rules.specs.View.{noView}
 use Rattle.rules.specs.Outcome.{Outcome, reply, metadataAfter, heapAfter, viewOf}
@@ -35,10 +35,11 @@ calledBy G m o =
 abbrev pub unserved : List ℕ → Refusal → Call
 unserved m r = record { answer = refusedBy r; metadata = m; heap = λ h. h; view = noView }
 
--- what a request asks for, on metadata of any bytes and length: the lengths are judged, and then it is carried out
+-- what a request asks for, on metadata of any bytes and length: lengths and counts are judged, and then it is carried
+-- out
 unfoldable pub serving : ℕ → List ℕ → Lent → Parsed → Call
 serving heapBytes m beside asked =
-    onceLaid (unserved m) (λ G. calledBy G m (act G m beside asked)) (judge heapBytes (length m))
+    onceLaid (unserved m) (λ G. calledBy G m (act G m beside asked)) (admit heapBytes m)
 
 -- a request of any bytes, which is read whole before it is carried out
 abbrev pub call : ℕ → List ℕ → List ℕ → Lent → Call

@@ -1,5 +1,6 @@
 -- Live objects, from requests and answers alone.
-use Prim.Native.Nat.{ℕ, _+_, _*_, _≤_}
+use Prim.Native.Nat.{ℕ, _+_, _*_, _≤_, _<_}
+use mathlib.Core.Path.{_≡_}
 use mathlib.Core.Bool.{true, false, cond, _&&_}
 use mathlib.Core.List.{List, [], _∷_}
 use lib.Dec.{leb, ltb, eqb}
@@ -7,7 +8,11 @@ use Rattle.request.specs.declared.Request.the-variants.{Allocate, Free, Remaini
 use Rattle.request.specs.declared.Parsed.{Parsed}
 use Rattle.request.specs.declared.Parsed.the-variants.{Whole, Malformed}
 use Rattle.geometry.specs.declared.Layout.{Layout}
-use Rattle.geometry.specs.Layout.{classOf, slotSize, slots}
+use Rattle.geometry.specs.Layout.{classes, classOf, slotSize, slots}
+use Rattle.bitmap.specs.Bitmap.{countSet}
+use Rattle.answer.specs.declared.Refusal.{Refusal}
+use Rattle.answer.specs.Reply.{numberOf}
+use Rattle.rules.specs.Metadata.{countOf, bitmapOf}
 use Rattle.rules.specs.Run.{Event}
 
 -- an object takes as many bytes from its start on as a slot of its class has
@@ -50,3 +55,13 @@ ofClass c (o ∷ os) = cond (eqb (o .class) c) 1 0 + ofClass c os
 pub record Sound (G : Layout) (os : List Object) : Type 0 where
   pub apart : (x : ℕ) → holding G x os ≤ 1
   pub half : (c : ℕ) → 2 * ofClass c os ≤ slots G c
+
+-- each class's live count is the number of its set slots, and of its live objects
+pub record Counted (G : Layout) (m : List ℕ) (os : List Object) : Type 0 where
+  pub set : (c : ℕ) → c < classes → countOf c m ≡ countSet (bitmapOf G c m) (slots G c)
+  pub objects : (c : ℕ) → c < classes → countOf c m ≡ ofClass c os
+
+-- a refusal that no request of a history is answered with
+abbrev pub Never : Refusal → List Event → Type 0
+Never r [] = Unit {0}
+Never r (a ∷ rest) = (a .answer .number ≡ numberOf r → ⊥) × Never r rest

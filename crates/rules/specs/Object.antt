@@ -9,11 +9,11 @@ use Rattle.geometry.specs.declared.Layout.{Layout}
 use Rattle.geometry.specs.declared.Location.{Location}
 use Rattle.geometry.specs.Layout.{heapLength, slotSize, slots, locate}
 use Rattle.bitmap.specs.Bitmap.{isSet}
-use Rattle.answer.specs.declared.Refusal.the-variants.{OutOfRange, NotASlotStart, NotAllocated}
+use Rattle.answer.specs.declared.Refusal.the-variants.{OutOfRange, NotASlotStart, NotAllocated, CorruptMetadata}
 use Rattle.answer.specs.Checks.{Check, _when_, checked}
 use Rattle.request.specs.declared.Kind.{Kind}
 use Rattle.request.specs.declared.Kind.the-variants.{Bytes, String, Padded}
-use Rattle.rules.specs.Metadata.{bitmapOf}
+use Rattle.rules.specs.Metadata.{countOf, bitmapOf}
 use Rattle.rules.specs.Outcome.{Outcome, refused, freed, told}
 
 abbrev pub isLive : Layout → List ℕ → Location → Bool
@@ -34,6 +34,7 @@ free G m offset =
     (ifPast G offset
     ∷ NotASlotStart when not (isStart G l)
     ∷ NotAllocated when not (isLive G m l)
+    ∷ CorruptMetadata when eqb (countOf (l .class) m) 0
     ∷ [])
     (freed (l .class) (l .slot))
 

@@ -14,6 +14,6 @@ pub record Setup : Type 0 where
 abbrev pub setup : ℕ → ℕ → Setup
 setup z w = record { seeds = record { z = z; w = w } }
 
--- metadata as an opening writes it: the generator, and clear bitmaps
+-- metadata as an opening writes it: the generator, counts of 0, and clear bitmaps
 abbrev pub fresh : Layout → Setup → List ℕ
 fresh G s = withGenerator (replicate (metadataLength G) 0) (s .seeds)

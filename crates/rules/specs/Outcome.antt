@@ -1,6 +1,6 @@
 -- What a request comes to, and what that means for its answer, the metadata, the heap and what the caller is shown. All
 -- but the heap afterwards depends on the heap's length alone, and not on its bytes.
-use Prim.Native.Nat.{ℕ}
+use Prim.Native.Nat.{ℕ, suc, _-_}
 use mathlib.Core.List.{List}
 use Rattle.mwc.specs.declared.Generator.{Generator}
 use Rattle.geometry.specs.declared.Layout.{Layout}
@@ -10,7 +10,7 @@ use Rattle.answer.specs.declared.Refusal.{Refusal}
 use Rattle.answer.specs.Reply.{Reply, served, refusedBy}
 use Rattle.writing.specs.Overwrite.{overwrite}
 use Rattle.rules.specs.declared.View.{View}
-use Rattle.rules.specs.Metadata.{withGenerator, bitmapOf}
+use Rattle.rules.specs.Metadata.{withGenerator, countOf, withCount, bitmapOf}
 use Rattle.rules.specs.View.{noView}
 
 pub data Outcome : Type 0 where
@@ -34,8 +34,11 @@ reply G (shown v) = served (v .len)
 abbrev pub metadataAfter : Layout → List ℕ → Outcome → List ℕ
 metadataAfter G m (refused r) = m
 metadataAfter G m (allocated c i g) =
-    withGenerator (overwrite m (bitmapAt G c) (setSlot (bitmapOf G c m) (slots G c) i)) g
-metadataAfter G m (freed c i) = overwrite m (bitmapAt G c) (clearSlot (bitmapOf G c m) (slots G c) i)
+    let set : List ℕ = overwrite m (bitmapAt G c) (setSlot (bitmapOf G c m) (slots G c) i) in
+    withGenerator (withCount set c (suc (countOf c m))) g
+metadataAfter G m (freed c i) =
+    let cleared : List ℕ = overwrite m (bitmapAt G c) (clearSlot (bitmapOf G c m) (slots G c) i) in
+    withCount cleared c (countOf c m - 1)
 metadataAfter G m (told value offset bytes) = m
 metadataAfter G m (shown v) = m
 

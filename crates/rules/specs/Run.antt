@@ -36,6 +36,11 @@ unfoldable pub trace : List ℕ → List Entry → List Step
 trace m [] = []
 trace m (e ∷ es) = stepOf m e ∷ trace (stepOf m e .metadata) es
 
+-- the metadata that a run leaves
+unfoldable pub left : List ℕ → List Entry → List ℕ
+left m [] = m
+left m (e ∷ es) = left (stepOf m e .metadata) es
+
 -- a request as it was read, and its answer
 pub record Event : Type 0 where
   pub asked : Parsed

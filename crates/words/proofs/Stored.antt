@@ -1,23 +1,54 @@
 -- A number read at a place and stored there.
-use Prim.Native.Nat.{ℕ, suc, _+_, _-_, _/_, _%_, _<_, _≤_}
-use mathlib.Core.Path.{_≡_, refl, ap, _∙_}
+use Prim.Native.Nat.{ℕ, suc, _+_, _-_, _/_, _%_, _^_, _<_, _≤_}
+use mathlib.Core.Path.{_≡_, refl, sym, ap, _∙_}
 use mathlib.Core.Bool.{Bool, true, false, cond}
-use mathlib.Core.List.{List, append-assoc}
-use native.Mathlib.Nat.{le-of-eq}
+use mathlib.Core.List.{List, _++_, append-assoc}
+use native.Mathlib.Nat.{le-of-eq, add-sub-cancel-left, div-div-eq-div-mul, div-add-mod', mod-eq-of-lt}
 use native.Mathlib.Omega.{arith}
 use borrow.Author.Tests.{leb-true, le-leb, lt-leb}
 use lib.Dec.{leb}
-use lib.ListN.{length, take, drop, set, length-drop, drop-of-length-le}
-use lib.Seq.{sets-eq, take-all, drop-drop}
+use lib.ListN.{length, take, drop, getD, set, length-drop, drop-of-length-le}
+use lib.Seq.{sets-eq, take-all, drop-drop, length-take-le, getD-take, getD-drop}
 use Rattle.writing.specs.Overwrite.{overwrite}
 use Rattle.writing.proofs.Writing.{overwrite-length}
-use Rattle.writing.proofs.Parts.{part-before, part-after}
+use Rattle.writing.proofs.Parts.{part-here, part-before, part-after, front-written}
 use Rattle.words.specs.Word.{wordOf, bytesOf, wordAt, putWord}
 
+-- a number's bytes are read as it was
+pub word-bytes : (n : ℕ) → n < 2 ^ 32 → wordOf (bytesOf n) ≡ n
+word-bytes n h =
+    let two : n / 65536 ≡ n / 256 / 256 = sym (div-div-eq-div-mul n 256 256) in
+    let three : n / 16777216 ≡ n / 65536 / 256 = sym (div-div-eq-div-mul n 65536 256) in
+    let top : n / 16777216 % 256 ≡ n / 16777216 = mod-eq-of-lt (omega arith) in
+    omega (arith, div-add-mod' n 256, div-add-mod' (n / 256) 256, div-add-mod' (n / 65536) 256)
+
+-- a place's number is that of its four bytes
+word-front : (b : List ℕ) → wordOf (take 4 b) ≡ wordOf b
+word-front b =
+    rw (
+      getD-take 4 b 0 0 (omega arith),
+      getD-take 4 b 1 0 (omega arith),
+      getD-take 4 b 2 0 (omega arith),
+      getD-take 4 b 3 0 (omega arith),
+    )
+
+pub word-same : (b b′ : List ℕ) (p : ℕ) → take 4 (drop p b′) ≡ take 4 (drop p b) → wordAt b′ p ≡ wordAt b p
+word-same b b′ p e = sym (word-front (drop p b′)) ∙ ap wordOf e ∙ word-front (drop p b)
+
+-- a number that ends within the front of a list stands in the front
+pub word-taken : (b : List ℕ) (n p : ℕ) → p + 4 ≤ n → wordAt (take n b) p ≡ wordAt b p
+word-taken b n p h = rw (byte 0 (omega arith), byte 1 (omega arith), byte 2 (omega arith), byte 3 (omega arith))
+  where
+    byte : (i : ℕ) → i < 4 → getD (drop p (take n b)) i 0 ≡ getD (drop p b) i 0
+    byte i l = getD-drop p (take n b) i 0 ∙ getD-take n b (p + i) 0 (omega arith) ∙ sym (getD-drop p b i 0)
+
 module _ (b : List ℕ) (at : ℕ) where
-  -- past the end, and from a place on
+  -- past the end, four bytes from a place on, and all
   pub none-there : length b ≤ at → 0 ≡ wordAt b at
   none-there h = rw (drop-of-length-le b {i = at} h)
+
+  pub four-there : {x : ℕ} → x ≡ wordOf (take (at + 4 - at) (drop at b)) → x ≡ wordAt b at
+  four-there e = e ∙ rw (add-sub-cancel-left at 4) (word-front (drop at b))
 
   pub read-there : {x : ℕ} → x ≡ wordOf (take (length b - at) (drop at b)) → x ≡ wordAt b at
   read-there e = e ∙ ap wordOf (take-all (length b - at) (drop at b) (le-of-eq (length-drop at b)))
@@ -54,3 +85,21 @@ module _ (b : List ℕ) (at : ℕ) where
 
     pub put-after : (p : ℕ) → at + 4 ≤ p → drop p (putWord b at n) ≡ drop p b
     put-after p h = put-keeps (λ l. drop p l ≡ drop p b) refl (λ room. part-after b at (bytesOf n) (omega arith) p h)
+
+    -- a number stored is read back, and those that stand elsewhere are as they were
+    pub word-stored : at + 4 ≤ length b → n < 2 ^ 32 → wordAt (putWord b at n) at ≡ n
+    word-stored room h =
+        let here : take 4 (drop at (overwrite b at (bytesOf n))) ≡ bytesOf n = part-here b at (bytesOf n) (omega arith) 4 refl in
+        rw (le-leb (at + 4) (length b) room) (sym (word-front (drop at (overwrite b at (bytesOf n)))) ∙ ap wordOf here ∙ word-bytes n h)
+
+    pub word-before : (p : ℕ) → p + 4 ≤ at → wordAt (putWord b at n) p ≡ wordAt b p
+    word-before p h = word-same b (putWord b at n) p (put-before p 4 h)
+
+    pub word-after : (p : ℕ) → at + 4 ≤ p → wordAt (putWord b at n) p ≡ wordAt b p
+    word-after p h = ap wordOf (put-after p h)
+
+-- a number stored in the front of a list is stored in the list
+pub front-put : (b : List ℕ) (n at v : ℕ) → at + 4 ≤ n → n ≤ length b → putWord (take n b) at v ++ drop n b ≡ putWord b at v
+front-put b n at v h l =
+    rw (le-leb (at + 4) (length (take n b)) (rw (length-take-le n b l) h), le-leb (at + 4) (length b) (omega arith))
+    (front-written n b at (bytesOf v) h l)

@@ -20,14 +20,18 @@ fn front(b: &[u8]) -> u32
     byte(b, 0) + 256 * byte(b, 1) + 65536 * byte(b, 2) + 16777216 * byte(b, 3)
 }
 
-// The number stored at a place; a byte past the end counts 0.
+// The number stored at a place; a byte past the end counts 0. Four bytes are lent as four, which the compiler reads at
+// once.
 pub fn get(b: &[u8], at: usize) -> u32
     ensures { λ r. ⌜ r ≡ wordAt (now (b .entry)) at ⌝ }
 {
     if b.len() <= at {
         return 0;
     }
-    front(&b[at..])
+    if b.len() - at < SIZE {
+        return front(&b[at..]);
+    }
+    front(&b[at..at + SIZE])
 }
 
 fn low(n: u32) -> u8

@@ -1,10 +1,10 @@
 -- Parts read back after one is written over: the part written, and those before and after it.
 use Prim.Native.Nat.{ℕ, _+_, _-_, _≤_}
 use mathlib.Core.Path.{_≡_, sym, ap, _∙_}
-use mathlib.Core.List.{List, _++_}
+use mathlib.Core.List.{List, _++_, append-assoc}
 use native.Mathlib.Omega.{arith}
 use lib.ListN.{length, take, drop, length-drop, take-append-drop}
-use lib.Seq.{length-take-le, take-at, drop-at, take-append-le, drop-append-le, drop-append-seam, drop-drop}
+use lib.Seq.{length-take-le, take-at, take-take, drop-at, take-append-le, drop-append-le, drop-append-seam, drop-drop}
 use Rattle.writing.specs.Overwrite.{overwrite}
 
 module _ (xs : List ℕ) (a : ℕ) (ys : List ℕ) (h : a ≤ length xs) where
@@ -33,3 +33,14 @@ module _ (xs : List ℕ) (a : ℕ) (ys : List ℕ) (h : a ≤ length xs) where
   part-after p l =
       let e : a + (length ys + (p - (a + length ys))) ≡ p = omega arith in
       rw (← e) (simp (← drop-drop, drop-here, drop-append-seam))
+
+-- what is written in the front of a list is written in the list
+pub front-written : (k : ℕ) (xs : List ℕ) (a : ℕ) (ys : List ℕ) → a + length ys ≤ k → k ≤ length xs
+    → overwrite (take k xs) a ys ++ drop k xs ≡ overwrite xs a ys
+front-written k xs a ys h l =
+    let size : length (take k xs) ≡ k = length-take-le k xs l in
+    let kept : drop (length ys) (drop a (take k xs)) ++ drop k xs ≡ drop (length ys) (drop a xs) =
+    rw (drop-drop (length ys) a (take k xs), drop-drop (length ys) a xs)
+    (sym (drop-append-le (a + length ys) (take k xs) (drop k xs) (omega arith)) ∙ ap (drop (a + length ys)) (take-append-drop k xs)) in
+    append-assoc (take a (take k xs)) _ (drop k xs)
+    ∙ rw (append-assoc ys (drop (length ys) (drop a (take k xs))) (drop k xs), kept, take-take a k xs (omega arith))

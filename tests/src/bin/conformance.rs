@@ -23,7 +23,7 @@ fn take<'a>(input: &mut &'a [u8], most: usize) -> &'a [u8] {
 /// Metadata for a heap of this length; that of no heap is as long as its fields.
 fn metadata_length(heap_len: usize) -> usize {
     match reference::metadata_length(heap_len) {
-        0 => 8,
+        0 => 56,
         len => len,
     }
 }

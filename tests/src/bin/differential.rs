@@ -4,8 +4,8 @@
 //! Arguments: --calls N (default 1,000,000), --seed N (default: from the clock),
 //! --progress (a line on standard error at each twentieth of the calls).
 
-use poheldu_tests::compare::{Lent, Tester, Twin, READ_KINDS, STRING_KINDS};
-use poheldu_tests::inputs::{self, Shape, CLASSES, STUCK_W, STUCK_Z};
+use poheldu_tests::compare::{Lent, Tester, Twin, CORRUPT_KINDS, READ_KINDS, STRING_KINDS};
+use poheldu_tests::inputs::{self, Shape, CLASSES, STUCK_DRAW, STUCK_W, STUCK_Z};
 use poheldu_tests::random::Random;
 use poheldu_tests::reference::{Answer, Part};
 use std::time::{SystemTime, UNIX_EPOCH};
@@ -20,6 +20,11 @@ const COPY_STRING: u8 = 4;
 const COPY_PADDED: u8 = 5;
 const READ: u8 = 6;
 const NO_OPERATION: u8 = 7;
+/// Corrupt metadata.
+const CORRUPT: Answer = Answer {
+    number: 13,
+    value: 0,
+};
 /// The page of calls that do not choose one.
 const PAGE: &[u8] = b"stand-in page";
 
@@ -38,6 +43,9 @@ fn main() {
     too_long(&mut tester);
     for shape in Shape::all() {
         edges(&mut tester, shape);
+        counts_above_half(&mut tester, shape);
+        counts_of_half(&mut tester, shape);
+        counts_of_nothing(&mut tester, shape);
         traps(&mut tester, &mut rng, shape);
     }
     most_slots(&mut tester, &mut rng);
@@ -129,6 +137,9 @@ fn report(tester: &Tester) {
     for (at, kind) in STRING_KINDS.iter().enumerate() {
         println!("strings {kind}: {}", tester.strings[at]);
     }
+    for (at, kind) in CORRUPT_KINDS.iter().enumerate() {
+        println!("refused with 13 {kind}: {}", tester.corrupt[at]);
+    }
     println!(
         "malformed, operation 7 and a count for operation 4: {:?}",
         tester.malformed
@@ -144,7 +155,8 @@ fn report(tester: &Tester) {
     );
 }
 
-/// Every refusal number, operation, walk, NULL, kind of read and of string, and size at an edge has to occur.
+/// Every refusal number, operation, walk, NULL, kind of read, of string and of
+/// refusal with 13, and size at an edge has to occur.
 fn require_coverage(tester: &Tester) {
     let seen = [
         &tester.counts[..],
@@ -155,6 +167,7 @@ fn require_coverage(tester: &Tester) {
         &tester.malformed,
         &tester.edge_sizes,
         &tester.strings,
+        &tester.corrupt,
         &[tester.walks, tester.wraps],
     ];
     if seen.concat().contains(&0) {
@@ -168,6 +181,8 @@ struct Session {
     heap: Twin,
     metadata: Twin,
     guard: usize,
+    /// The metadata are what a served opening and requests since have left.
+    opened: bool,
 }
 
 impl Session {
@@ -177,6 +192,7 @@ impl Session {
             heap: Twin::new(heap, guard),
             metadata: Twin::new(&vec![0xEE; shape.metadata_len()], guard),
             guard,
+            opened: false,
         }
     }
 
@@ -187,12 +203,22 @@ impl Session {
     }
 
     fn open(&mut self, tester: &mut Tester, z: u32, w: u32) -> Answer {
-        tester.open(&mut self.heap, &mut self.metadata, z, w)
+        let answer = tester.open(&mut self.heap, &mut self.metadata, z, w);
+        self.opened |= answer.number == 0;
+        answer
+    }
+
+    /// Metadata that no opening made, from now on.
+    fn replace_metadata(&mut self, metadata: &[u8]) {
+        self.metadata.replace(metadata);
+        self.opened = false;
     }
 
     fn serve(&mut self, tester: &mut Tester, request: &[u8], source: &[u8], page: &[u8]) -> Answer {
         let mut lent = Lent::new(request, source, page, self.guard);
-        tester.serve(&mut self.heap, &mut self.metadata, &mut lent)
+        let answer = tester.serve(&mut self.heap, &mut self.metadata, &mut lent);
+        self.expect_no_corruption(answer.number);
+        answer
     }
 
     fn run(&mut self, tester: &mut Tester, operation: u8, argument: u32) -> Answer {
@@ -202,7 +228,25 @@ impl Session {
 
     fn read(&mut self, tester: &mut Tester, offset: u32, count: u32, page: &[u8]) -> Part {
         let mut page = Twin::new(page, self.guard);
-        tester.read(&mut self.heap, &mut self.metadata, offset, count, &mut page)
+        let part = tester.read(&mut self.heap, &mut self.metadata, offset, count, &mut page);
+        self.expect_no_corruption(part.number);
+        part
+    }
+
+    fn expect_no_corruption(&self, number: u32) {
+        expect(!self.opened || number != 13, "13 in a run from an opening");
+    }
+
+    /// In a run from an opening each count is that of its class's set bits.
+    fn expect_counts(&self) {
+        let metadata = self.metadata.bytes();
+        let agrees = |class| {
+            inputs::count_of(metadata, class) == inputs::set_bits(self.shape, metadata, class)
+        };
+        expect(
+            !self.opened || (0..CLASSES).all(agrees),
+            "a count in a run from an opening",
+        );
     }
 
     /// A read by its own call and as a request, which say the same.
@@ -227,12 +271,15 @@ impl Session {
 
 /// Calls whose answers the document gives.
 fn document_cases(tester: &mut Tester) {
+    metadata_lengths(tester);
+    first_line(tester);
     eight_lines(tester);
     sizes_at_the_edge(tester);
     walk(tester);
     strings(tester);
     reads(tester);
     refused_reads(tester);
+    counts_among_checks(tester);
     for (blocks, number, mask) in [
         (&b"ABA"[..], 0, 5),
         (b"BAAB", 0, 9),
@@ -255,6 +302,31 @@ fn expect(holds: bool, what: &str) {
             "difference from the document's figures: {what} (both implementations agree)"
         ));
     }
+}
+
+fn metadata_lengths(tester: &mut Tester) {
+    for (region, length) in [(1_024, 90), (4_096, 186), (1_048_576, 32_816)] {
+        expect(
+            tester.metadata_length(12 * region) == length,
+            "a metadata length",
+        );
+    }
+}
+
+/// The metadata after the first of the eight lines: z and w have moved, class 0
+/// has a live object by its count and by its bit.
+fn first_line(tester: &mut Tester) {
+    let mut session = Session::counting(Shape { region: 4_096 });
+    session.open(tester, 1, 1);
+    session.run(tester, ALLOCATE, 5);
+    let mut expected = [0; 186];
+    for (at, byte) in [(0, 0x69), (1, 0x90), (4, 0x50), (5, 0x46), (8, 1), (66, 1)] {
+        expected[at] = byte;
+    }
+    expect(
+        session.metadata.bytes() == expected,
+        "the metadata after the first line",
+    );
 }
 
 fn eight_lines(tester: &mut Tester) {
@@ -397,6 +469,32 @@ fn refused_reads(tester: &mut Tester) {
     }
 }
 
+/// Lengths are judged before counts, a request's bytes after them, and opening
+/// judges none.
+fn counts_among_checks(tester: &mut Tester) {
+    let shape = Shape { region: 4_096 };
+    let mut session = Session::counting(shape);
+    session.replace_metadata(&vec![0xFF; shape.metadata_len()]);
+    for (cut_heap, metadata_len, number) in [
+        (0, 186, 13),
+        (0, 185, 3),
+        (0, 56, 3),
+        (0, 55, 3),
+        (0, 0, 3),
+        (1, 186, 2),
+    ] {
+        session.heap.show(shape.heap_len() - cut_heap);
+        session.metadata.show(metadata_len);
+        let answer = session.serve(tester, &[], b"text", PAGE);
+        expect(answer == Answer { number, value: 0 }, "counts among checks");
+    }
+    session.show_all();
+    expect(
+        session.open(tester, 1, 1).number == 0,
+        "opening over counts",
+    );
+}
+
 /// Each call is made twice: once with NULL, once with a dangling pointer.
 fn null_buffers(tester: &mut Tester) {
     let mut session = Session::counting(Shape { region: 1_024 });
@@ -430,7 +528,8 @@ fn null_pages(tester: &mut Tester, session: &mut Session, object: u32) {
 }
 
 fn null_session(tester: &mut Tester, session: &mut Session) {
-    for (heap_len, metadata_len) in [(0, 0), (0, 42), (12 * 1_024, 0)] {
+    let (heap_len, metadata_len) = (session.shape.heap_len(), session.shape.metadata_len());
+    for (heap_len, metadata_len) in [(0, 0), (0, metadata_len), (heap_len, 0)] {
         session.heap.show(heap_len);
         session.metadata.show(metadata_len);
         for _ in 0..2 {
@@ -481,7 +580,7 @@ fn edges(tester: &mut Tester, shape: Shape) {
         tester.metadata_length(length);
     }
     fill_class(tester, &mut session);
-    session.metadata.replace(&vec![0xFF; shape.metadata_len()]);
+    session.replace_metadata(&inputs::all_live(shape));
     for class in 0..CLASSES {
         let start = (class * shape.region) as u32;
         session.run(tester, REMAINING, start);
@@ -519,11 +618,89 @@ fn edge_reads(tester: &mut Tester, session: &mut Session, start: u32) {
     session.serve(tester, &request, b"text", PAGE);
 }
 
+/// A count above half, of any class, refuses every request of another class, the
+/// malformed ones, and reads.
+fn counts_above_half(tester: &mut Tester, shape: Shape) {
+    let mut session = Session::counting(shape);
+    session.open(tester, 1, 1);
+    let opened = session.metadata.bytes().to_vec();
+    for class in 0..CLASSES {
+        let (half, other) = (shape.half(class), (class + 1) % CLASSES);
+        let huge = [(1 << 31) + half, u32::MAX][class % 2];
+        let (operation, start) = (class as u8 % (READ + 1), (other * shape.region) as u32);
+        let argument = match operation {
+            ALLOCATE => inputs::slot_size(other) as u32,
+            _ => start,
+        };
+        for (count, operation) in [(half + 1, operation), (huge, NO_OPERATION)] {
+            let mut metadata = opened.clone();
+            inputs::set_count(&mut metadata, class, count);
+            session.replace_metadata(&metadata);
+            let answer = session.run(tester, operation, argument);
+            expect(answer == CORRUPT, "a request by a count above half");
+        }
+        let part = session.read(tester, start, 8, PAGE);
+        let shown = (part.value, part.of_page, part.start);
+        expect(
+            part.number == 13 && shown == (0, 1, 0),
+            "a read by a count above half",
+        );
+    }
+}
+
+/// All slots are live, and each class half full by its count: that is served.
+/// The slot before the drawn one is freed, and is where the longest walk ends.
+fn counts_of_half(tester: &mut Tester, shape: Shape) {
+    let mut session = Session::counting(shape);
+    let mut metadata = inputs::all_live(shape);
+    inputs::set_seeds(&mut metadata, STUCK_Z, STUCK_W);
+    session.replace_metadata(&metadata);
+    for class in 0..CLASSES {
+        let (slots, size) = (shape.slots(class), inputs::slot_size(class));
+        let index = if slots > 1 { STUCK_DRAW % slots - 1 } else { 0 };
+        let offset = (class * shape.region + index * size) as u32;
+        let size = size as u32;
+        let (full, freed, taken) = match slots {
+            0 => ((6, 0), (9, 0), (6, 0)),
+            1 => ((6, 0), (13, 0), (6, 0)),
+            _ => ((7, 0), (0, size), (0, offset)),
+        };
+        for (operation, argument, (number, value)) in [
+            (ALLOCATE, size, full),
+            (FREE, offset, freed),
+            (ALLOCATE, size, taken),
+        ] {
+            let answer = session.run(tester, operation, argument);
+            expect(answer == Answer { number, value }, "a count of half");
+        }
+    }
+}
+
+/// All slots are live, and none by its count: an allocation finds no clear slot,
+/// and a free an object that the count does not have. Neither changes a byte.
+fn counts_of_nothing(tester: &mut Tester, shape: Shape) {
+    let mut session = Session::counting(shape);
+    let mut metadata = inputs::all_live(shape);
+    (0..CLASSES).for_each(|class| inputs::set_count(&mut metadata, class, 0));
+    session.replace_metadata(&metadata);
+    for class in (0..CLASSES).filter(|&class| shape.slots(class) > 1) {
+        let size = inputs::slot_size(class) as u32;
+        let answer = session.run(tester, ALLOCATE, size);
+        expect(answer == CORRUPT, "an allocation without a clear slot");
+        let answer = session.run(tester, FREE, (class * shape.region) as u32);
+        expect(answer == CORRUPT, "a free by a count of 0");
+    }
+    expect(
+        session.metadata.bytes() == metadata,
+        "metadata after refusals",
+    );
+}
+
 /// Walks that start anywhere in a class.
 fn traps(tester: &mut Tester, rng: &mut Random, shape: Shape) {
     let mut session = Session::counting(shape);
     for class in (0..CLASSES).filter(|&class| shape.slots(class) >= 128) {
-        session.metadata.replace(&inputs::trap(rng, shape, class));
+        session.replace_metadata(&inputs::trap(rng, shape, class));
         for _ in 0..2 {
             session.run(tester, ALLOCATE, inputs::slot_size(class) as u32);
         }
@@ -617,6 +794,7 @@ fn wrong_lengths(tester: &mut Tester, rng: &mut Random) {
             heap: Twin::new(&heap, guard),
             metadata: Twin::new(&metadata, guard),
             guard,
+            opened: false,
         };
         let (z, w) = (rng.pick(&[0, 1, 9]), rng.pick(&[0, 1, 9]));
         random_serve(tester, rng, &mut session, &[]);
@@ -673,17 +851,18 @@ fn random_session(tester: &mut Tester, rng: &mut Random, calls: u64) {
     let mut allocated = Vec::new();
     if rng.once_in(3) {
         let metadata = inputs::foreign_metadata(rng, shape);
-        session.metadata.replace(&metadata);
+        session.replace_metadata(&metadata);
     } else {
         random_open(tester, rng, &mut session);
     }
     let class = rng.once_in(2).then(|| inputs::class(rng, shape));
     for _ in 0..rng.between(1, 200) {
         if tester.calls >= calls {
-            return;
+            break;
         }
         random_step(tester, rng, &mut session, &mut allocated, class);
     }
+    session.expect_counts();
 }
 
 fn random_open(tester: &mut Tester, rng: &mut Random, session: &mut Session) {
@@ -717,6 +896,7 @@ fn random_step(
             }
         }
     }
+    mend_counts(rng, session);
     if rng.once_in(64) {
         cut_lengths(rng, session);
         session.run(tester, ALLOCATE, 8);
@@ -733,8 +913,19 @@ fn remember(allocated: &mut Vec<u32>, answer: Answer) {
 
 fn damage_metadata(rng: &mut Random, session: &mut Session) {
     let mut metadata = session.metadata.bytes().to_vec();
-    inputs::damage(rng, &mut metadata);
-    session.metadata.replace(&metadata);
+    inputs::damage(rng, session.shape, &mut metadata);
+    session.replace_metadata(&metadata);
+}
+
+/// Sets counts right that refuse every request, after a few calls.
+fn mend_counts(rng: &mut Random, session: &mut Session) {
+    let above = inputs::above_half(session.shape, session.metadata.bytes());
+    if above.is_none() || !rng.once_in(4) {
+        return;
+    }
+    let mut metadata = session.metadata.bytes().to_vec();
+    inputs::fit_counts(session.shape, &mut metadata);
+    session.replace_metadata(&metadata);
 }
 
 /// Shows the next call a shorter heap or shorter metadata.

@@ -1,8 +1,10 @@
 -- `heap::open` meets its contract: a law of opening for each return.
 use borrow.Author.Needs.{needs}
 use mathlib.Core.Path.{refl, sym, _∙_}
+use lib.ListN.{length-replicate}
 use Rattle.rules.specs.Open.{setup}
 use Rattle.rules.proofs.Serving.{laid-fits, opening-unfit, opening-unusable, opening-served}
+use Rattle.heap.proofs.Part.{has-fields}
 use Rattle.heap.proofs.open.Statement.{statement}
 use Rattle.heap.proofs.open.Tie as tie
 
@@ -30,7 +32,10 @@ clear-requires : tie.Need-clear-requires
 clear-requires c κs = search needs
 
 store-requires : tie.Need-store-requires
-store-requires c κs = search needs
+store-requires c κs =
+    let judged = c .before .before .before .before .before .before .before .before .before in
+    let laid = sym (judged .lengths .ensures) ∙ c .before .before .before .before .before .before .before .enum-told .given .1 in
+    rw (c .before .before .before .clear .ensures, length-replicate) (has-fields _ (laid-fits _ _ laid .1))
 
 returns-2 : tie.Need-returns-2
 returns-2 c =

@@ -27,8 +27,8 @@ draw-requires c κs = search needs
 wide-requires : tie.Need-wide-requires Inv-loop μ-loop
 wide-requires c κs = search needs
 
-remainder-requires : tie.Need-remainder-requires Inv-loop μ-loop
-remainder-requires c κs = search needs
+power-remainder-requires : tie.Need-power-remainder-requires Inv-loop μ-loop
+power-remainder-requires c κs = search needs
 
 is-set-requires : tie.Need-is-set-requires Inv-loop μ-loop
 is-set-requires c κs = search needs
@@ -36,7 +36,7 @@ is-set-requires c κs = search needs
 returns : tie.Need-returns Inv-loop μ-loop
 returns c =
     let drew = c .before .before .before in
-    let slot = rw (drew .wide .ensures .0, drew .before .draw .ensures) at (c .before .before .remainder .ensures) in
+    let slot = rw (drew .wide .ensures .0, drew .before .draw .ensures) at (c .before .before .power-remainder .ensures) in
     sym
     (drew .before .before .before .before .loop .inv
     ∙ probe-hit _ _ _ _ (drew .before .before .advance .ensures) slot (omega arith)
@@ -51,7 +51,7 @@ loop-less c = omega arith
 loop-again : tie.Need-loop-again Inv-loop μ-loop
 loop-again c =
     let drew = c .before .before .before in
-    let slot = rw (drew .wide .ensures .0, drew .before .draw .ensures) at (c .before .before .remainder .ensures) in
+    let slot = rw (drew .wide .ensures .0, drew .before .draw .ensures) at (c .before .before .power-remainder .ensures) in
     drew .before .before .before .before .loop .inv
     ∙ probe-miss _ _ _ _ (drew .before .before .advance .ensures) slot (omega arith)
     (sym (c .before .is-set .ensures) ∙ not-false _ (c .if1 .left))
@@ -72,7 +72,7 @@ find-spec =
     advance-requires
     draw-requires
     wide-requires
-    remainder-requires
+    power-remainder-requires
     is-set-requires
     returns
     sub-left

@@ -3,7 +3,7 @@
 use std::hint::black_box;
 use std::time::Instant;
 
-const ROUNDS: usize = 31;
+pub const ROUNDS: usize = 31;
 
 /// Nanoseconds of one of the `calls` that `run` makes.
 pub fn time(calls: usize, run: impl FnOnce()) -> f64 {
@@ -44,7 +44,7 @@ pub fn quartile(values: &[f64], quarters: usize) -> f64 {
 }
 
 /// The median of the rounds' ratios, and the two values that the middle half of them lies between.
-fn ratio(ours: &[f64], theirs: &[f64]) -> String {
+pub fn ratio(ours: &[f64], theirs: &[f64]) -> String {
     let ratios: Vec<f64> = ours.iter().zip(theirs).map(|(a, b)| a / b).collect();
     let [low, middle, high] = [1, 2, 3].map(|quarters| quartile(&ratios, quarters));
     format!("{middle:.2} ({low:.2} to {high:.2})")

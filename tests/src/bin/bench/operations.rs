@@ -1,15 +1,19 @@
 //! Each operation against the second implementation, both on the same heap and with the same requests.
 
 use crate::heap::{allocate, figure, free, read, remaining, request, Heap, Request};
-use crate::measure::{head, repeat, row, time};
+use crate::measure::{head, ratio, repeat, rounds, row, time, ROUNDS};
 use crate::votes;
 use poheldu_tests::reference::Answer;
 use poheldu_tests::{capi, reference};
 use std::cell::RefCell;
 use std::hint::black_box;
+use std::ops::Range;
 
 /// The calls of a round.
 const CALLS: usize = 512;
+
+/// Where the metadata has the live count of the last class.
+const LAST_COUNT: Range<usize> = 52..56;
 
 /// Serves a request: on a heap and its metadata, with a source and a page.
 trait Serve: Fn(&mut [u8], &mut [u8], &[u8], &[u8], &[u8]) -> Answer {}
@@ -128,6 +132,21 @@ fn freeing(region: usize, size: usize) -> Case {
     }
 }
 
+/// Allocations of 8 bytes with three eighths of the slots live on average: a quarter to half in regions of 4,096 bytes.
+fn allocating_level(region: usize) -> Case {
+    let slots = region / 8;
+    let count = (slots / 4).min(CALLS);
+    let mut heap = Heap::new(region);
+    heap.fill(8, slots * 3 / 8 - count / 2);
+    Case {
+        name: "allocate, 8 bytes".into(),
+        number: 0,
+        heap,
+        requests: vec![allocate(8); count],
+        source: vec![],
+    }
+}
+
 fn refusals(region: usize) -> Vec<Case> {
     let mut heap = Heap::new(region);
     heap.fill(8, region / 16);
@@ -137,8 +156,12 @@ fn refusals(region: usize) -> Vec<Case> {
         .find(|&other| other != at)
         .expect("at least four slots");
     let end = 12 * region as u32;
+    let mut corrupt = heap.clone();
+    corrupt.metadata[LAST_COUNT].fill(0xFF);
+    let name = "request refused, corrupt metadata";
     let case = |name, number, request| Case::same(name, number, &heap, request, &[]);
     vec![
+        Case::same(name, 13, &corrupt, allocate(8), &[]),
         case("request refused, malformed", 4, request(9, 0, 0)),
         case("allocate refused, 16,385 bytes", 5, allocate(16_385)),
         case("allocate refused, at capacity", 7, allocate(8)),
@@ -250,16 +273,46 @@ pub fn sizes() {
     }
 }
 
-/// One placing over all region lengths.
-pub fn growth() {
-    head(
-        "An allocation of 8 bytes in a class near half full, over the region lengths",
-        "region, bytes",
-        &["second"],
-    );
+/// Requests of 8 bytes over all region lengths.
+fn lengths(title: &str, case: fn(usize, usize) -> Case) {
+    head(title, "region, bytes", &["second"]);
     for shift in 10..=20 {
-        let mut case = allocating(1 << shift, 8);
+        let mut case = case(1 << shift, 8);
         case.name = figure(1 << shift);
         case.row();
     }
+}
+
+/// A line: what an allocation takes in the longest regions, to what it takes in regions of 4,096 bytes. All take turns.
+fn longest_to_short() {
+    let cases = [1 << 20, 4096].map(allocating_level);
+    cases.iter().for_each(Case::check);
+    let [long, short] = cases.each_ref().map(|case| RefCell::new(Stage::new(case)));
+    let [ours_long, ours_short, second_long, second_short] = rounds(
+        ROUNDS,
+        [
+            &mut || long.borrow_mut().run(capi::serve),
+            &mut || short.borrow_mut().run(capi::serve),
+            &mut || long.borrow_mut().run(reference::serve),
+            &mut || short.borrow_mut().run(reference::serve),
+        ],
+    );
+    println!(
+        "\nIn regions of 1,048,576 bytes to regions of 4,096, three eighths of the slots live:\nPoheldu {}, second {}.",
+        ratio(&ours_long, &ours_short),
+        ratio(&second_long, &second_short)
+    );
+}
+
+/// An allocation and a free over all region lengths.
+pub fn growth() {
+    lengths(
+        "An allocation of 8 bytes in a class near half full, over the region lengths",
+        allocating,
+    );
+    longest_to_short();
+    lengths(
+        "A free of 8 bytes in a class half full at first, over the region lengths",
+        freeing,
+    );
 }

@@ -1,56 +1,65 @@
--- `Layout::bitmap_start` meets its contract. The loop's invariant: the sum up to a class is where its bitmap starts.
-use Prim.Native.Nat.{_+_, _-_, _*_, _≤_}
-use mathlib.Core.Path.{_≡_, refl}
+-- `Layout::bitmap_start` meets its contract: a law of `Halving`, or the sum.
+use borrow.Author.Needs.{needs}
+use Prim.Native.Nat.{_+_, _-_, _*_, _/_, _≤_}
+use mathlib.Core.Path.{_≡_}
 use native.Mathlib.Omega.{arith}
 use Rattle.geometry.specs.Layout.{header, bitmapAt}
-use Rattle.geometry.proofs.Geometry.{bitmap-next, bitmap-same}
+use Rattle.geometry.proofs.Geometry.{slot-size-le}
+use Rattle.geometry.proofs.Halving.{four-slots, halved-start}
 use Rattle.geometry.proofs.Layout.bitmap_start.Statement.{statement}
 use Rattle.geometry.proofs.Layout.bitmap_start.Tie as tie
 
-abbrev Inv-loop : tie.InvT-loop
-Inv-loop self class last at₀ passed₀ at passed =
-    (passed ≤ last) × (at ≡ bitmapAt self passed) × (at ≤ header + passed * 536870912)
+wide-requires : tie.Need-wide-requires
+wide-requires c κs = search needs
 
-abbrev μ-loop : tie.MeasureT-loop
-μ-loop self class last at₀ passed₀ at passed = last - passed
+slot-size-requires : tie.Need-slot-size-requires
+slot-size-requires c κs = search needs
 
-least-requires : tie.Need-least-requires Inv-loop μ-loop
-least-requires c κs = tt
+mul-four : tie.Need-mul-four
+mul-four c =
+    let a = c .before .before .before .args in
+    omega (arith, c .slot-size .ensures, slot-size-le (a .self) (a .class))
 
-loop-holds : tie.Need-loop-holds Inv-loop μ-loop
-unfolding bitmapAt
-loop-holds c = (omega arith, refl, omega arith)
+rem-if2 : tie.Need-rem-if2
+rem-if2 c = four-slots _ (c .before .before .if1 .taken) (c .slot-size .ensures)
 
-bitmap-length-requires : tie.Need-bitmap-length-requires Inv-loop μ-loop
-bitmap-length-requires c κs = tt
+add-result : tie.Need-add-result
+add-result c = search needs
 
-add-at : tie.Need-add-at Inv-loop μ-loop
-add-at c = omega arith
+div-result : tie.Need-div-result
+div-result c = four-slots _ (c .before .before .before .if1 .taken) (c .before .slot-size .ensures)
 
-add-passed : tie.Need-add-passed Inv-loop μ-loop
-add-passed c = omega arith
+-- the region divides well
+start : (c : tie.Then2) → let a = c .before .before .before .before .args in
+    let r = c .before .before .wide .result in
+    let four = 4 * c .before .slot-size .result in
+    (r / four ≤ r / 32) × (header + r / 32 - r / four ≡ bitmapAt (a .self) (a .class))
+start c =
+    halved-start _ (c .before .before .before .if1 .taken) (c .before .before .wide .ensures .0) (c .before .slot-size .ensures) (c .if2 .taken)
 
-loop-less : tie.Need-loop-less Inv-loop μ-loop
-loop-less c = omega arith
+sub-result : tie.Need-sub-result
+sub-result c = omega (arith, start c .0)
 
-loop-again : tie.Need-loop-again Inv-loop μ-loop
-loop-again c =
-    (omega arith, bitmap-next _ _ (c .before .before .loop .inv .1) (c .bitmap-length .ensures .0), omega arith)
+returns : tie.Need-returns
+returns c = (start c .1, omega arith)
 
-returns : tie.Need-returns Inv-loop μ-loop
-returns c = (bitmap-same _ _ _ (c .before .loop .inv .1) (omega arith), omega arith)
+summed-start-requires : tie.Need-summed-start-requires
+summed-start-requires c κs = search needs
+
+returns-2 : tie.Need-returns-2
+returns-2 c = search needs
 
 pub bitmap-start-spec : {M : Type 1} → statement M
 bitmap-start-spec =
     tie.close
     (tie.spec
-    Inv-loop
-    μ-loop
-    least-requires
-    loop-holds
-    bitmap-length-requires
-    add-at
-    add-passed
-    loop-less
-    loop-again
-    returns)
+    wide-requires
+    slot-size-requires
+    mul-four
+    rem-if2
+    add-result
+    div-result
+    sub-result
+    returns
+    summed-start-requires
+    returns-2)

@@ -9,31 +9,31 @@ wide-requires c κs = search needs
 wide-requires-2 : tie.Need-wide-requires-2
 wide-requires-2 c κs = search needs
 
+power-quotient-requires : tie.Need-power-quotient-requires
+power-quotient-requires c κs = search needs
+
+power-remainder-requires : tie.Need-power-remainder-requires
+power-remainder-requires c κs = search needs
+
+slot-size-requires : tie.Need-slot-size-requires
+slot-size-requires c κs = search needs
+
 quotient-requires : tie.Need-quotient-requires
 quotient-requires c κs = search needs
 
 remainder-requires : tie.Need-remainder-requires
 remainder-requires c κs = search needs
 
-slot-size-requires : tie.Need-slot-size-requires
-slot-size-requires c κs = search needs
-
-quotient-requires-2 : tie.Need-quotient-requires-2
-quotient-requires-2 c κs = search needs
-
-remainder-requires-2 : tie.Need-remainder-requires-2
-remainder-requires-2 c κs = search needs
-
 returns : tie.Need-returns
 returns c =
     let d = c .before .before in
     let e = d .before .before in
     rw (
-      c .remainder2 .ensures,
-      c .before .quotient2 .ensures .0,
+      c .remainder .ensures,
+      c .before .quotient .ensures .0,
       d .slot-size .ensures,
-      d .before .remainder .ensures,
-      e .quotient .ensures .0,
+      d .before .power-remainder .ensures,
+      e .power-quotient .ensures .0,
       e .before .wide2 .ensures .0,
       e .before .before .wide .ensures .0,
     )
@@ -44,9 +44,9 @@ locate-spec =
     (tie.spec
     wide-requires
     wide-requires-2
+    power-quotient-requires
+    power-remainder-requires
+    slot-size-requires
     quotient-requires
     remainder-requires
-    slot-size-requires
-    quotient-requires-2
-    remainder-requires-2
     returns)

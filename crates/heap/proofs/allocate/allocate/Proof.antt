@@ -1,11 +1,9 @@
 -- `allocate::allocate` meets its contract: a law of `Allocating` for each return.
 use borrow.Author.Needs.{needs}
-use mathlib.Core.Path.{_≡_, refl, _∙_}
+use mathlib.Core.Path.{_≡_, refl}
 use native.Mathlib.Omega.{arith}
 use Rattle.geometry.specs.Layout.{slots}
-use Rattle.bitmap.specs.Bitmap.{countSet}
-use Rattle.rules.specs.Metadata.{bitmapOf}
-use Rattle.heap.proofs.Part.{within, part-bits}
+use Rattle.heap.proofs.Part.{has-fields}
 use Rattle.heap.proofs.Allocating.{too-large, too-small, at-capacity, roomy}
 use Rattle.heap.proofs.allocate.allocate.Statement.{statement}
 use Rattle.heap.proofs.allocate.allocate.Tie as tie
@@ -31,32 +29,34 @@ returns-2 c =
     rw (too-small _ _ _ (part .before .before .class-of .ensures) (omega arith) (slots-are part) (c .if2 .taken)) (refl, refl)
 
 count-requires : tie.Need-count-requires
-count-requires c κs =
-    let part = c .before .before .before .before in
-    within _ _ (part .part .ensures) (part .before .before .before .before .pre)
+count-requires c κs = (omega arith, has-fields _ (c .before .before .before .before .before .before .before .pre))
 
--- and so are its bits
-counted : (c : tie.After-count)
-    → let part = c .before .before .before .before .before in
-    let a = part .before .before .before .before .args in
-    let class = part .before .before .class-of .result in
-    c .count .result ≡ countSet (bitmapOf (a .layout) class (a .metadata .now)) (part .part .result .slots)
-counted c = c .count .ensures ∙ rw (part-bits _ _ (c .before .before .before .before .before .part .ensures) _)
+wide-requires : tie.Need-wide-requires
+wide-requires c κs = search needs
 
 same-length : tie.Need-same-length
 same-length c = search needs
 
 returns-3 : tie.Need-returns-3
 returns-3 c =
-    let part = c .before .before .before .before .before .before in
+    let counted = c .before .before .before in
+    let part = counted .before .before .before .before in
     rw (at-capacity _ _ _ (part .before .before .class-of .ensures) (omega arith) (slots-are part) (omega arith)
-    (counted (c .before)) (c .if3 .taken)) (refl, refl)
+    (counted .count .ensures) (rw (c .before .wide .ensures .0) at (c .if3 .taken))) (refl, refl)
 
 take-requires : tie.Need-take-requires
 take-requires c κs =
-    let part = c .before .before .before .before .before .before .before in
-    let sized = slots-are part in
-    (part .before .before .before .before .pre, record { class = omega arith; some = omega arith; of = part .part .ensures })
+    let counted = c .before .before .before .before in
+    let part = counted .before .before .before .before in
+    let sized = slots-are part in (
+      part .before .before .before .before .pre,
+      record {
+        class = omega arith;
+        of = part .part .ensures;
+        counted = counted .count .ensures;
+        few = omega (arith, sized, c .before .before .wide .ensures .0);
+      },
+    )
 
 same-length-2 : tie.Need-same-length-2
 same-length-2 c = search needs
@@ -64,9 +64,10 @@ same-length-2 c = search needs
 returns-4 : tie.Need-returns-4
 returns-4 c =
     let tested = c .before .before .before .before in
-    let part = tested .before .before .before .before .before .before in
+    let counted = tested .before .before .before in
+    let part = counted .before .before .before .before in
     rw (roomy _ _ _ (part .before .before .class-of .ensures) (omega arith) (slots-are part) (omega arith)
-    (counted (tested .before)) (tested .if3 .left))
+    (counted .count .ensures) (rw (tested .before .wide .ensures .0) at (tested .if3 .left)))
     (c .before .before .take .ensures)
 
 pub allocate-spec : {M : Type 1} → statement M
@@ -78,6 +79,7 @@ allocate-spec =
     part-requires
     returns-2
     count-requires
+    wide-requires
     same-length
     returns-3
     take-requires

@@ -10,7 +10,7 @@ get-requires-2 : tie.Need-get-requires-2
 get-requires-2 c κs = search needs
 
 returns : tie.Need-returns
-returns c = cc
+returns c = rw (c .get2 .ensures, c .before .get .ensures)
 
 pub generator-spec : {M : Type 1} → statement M
 generator-spec = tie.close (tie.spec get-requires get-requires-2 returns)

@@ -1,7 +1,7 @@
 -- `object::free` meets its contract: each refusal is the definition's, and the bitmap that comes back cleared is written over the old one.
 use borrow.Author.Needs.{needs}
 use Prim.Native.Nat.{_<_}
-use mathlib.Core.Path.{_≡_, refl, _∙_}
+use mathlib.Core.Path.{_≡_, refl, sym, _∙_}
 use mathlib.Core.Bool.{not, cond, and-false}
 use native.Mathlib.Omega.{arith}
 use lib.Dec.{eqb}
@@ -9,13 +9,15 @@ use lib.ListN.{length}
 use borrow.Author.Tests.{le-leb, lt-ltb, le-ltb, eq-eqb, ne-eqb}
 use mir.Facts.{fits-below}
 use Rattle.geometry.proofs.Geometry.{slot-size-le}
-use Rattle.geometry.specs.Layout.{heapLength}
+use Rattle.geometry.specs.Layout.{classes, heapLength}
+use Rattle.geometry.proofs.Slots.{slots-class}
 use Rattle.bitmap.specs.Bitmap.{clearSlot}
-use Rattle.answer.specs.declared.Refusal.the-variants.{NotAllocated}
+use Rattle.answer.specs.declared.Refusal.the-variants.{NotAllocated, CorruptMetadata}
 use Rattle.heap.specs.Relied.{Within}
+use Rattle.rules.specs.Metadata.{countOf}
 use Rattle.rules.specs.Outcome.{refused, freed}
 use Rattle.rules.specs.Object.{free}
-use Rattle.heap.proofs.Part.{within, part-changed}
+use Rattle.heap.proofs.Part.{has-fields, within, part-changed}
 use Rattle.heap.proofs.Live.{tested-live}
 use Rattle.heap.proofs.Freeing.{no-start, at-start}
 use Rattle.heap.proofs.object.free.Statement.{statement}
@@ -72,7 +74,9 @@ freeing : (c : tie.After-is-set)
     → let l = c .before .before .before .before .before .before .before in
     let a = l .before .before .before .before .before .args in
     free (a .layout) (a .metadata .now) (a .offset)
-    ≡ cond (not (c .is-set .result)) (refused NotAllocated) (freed (l .locate .result .class) (l .locate .result .slot))
+    ≡ cond (not (c .is-set .result)) (refused NotAllocated)
+    (cond (eqb (countOf (l .locate .result .class) (a .metadata .now)) 0) (refused CorruptMetadata)
+    (freed (l .locate .result .class) (l .locate .result .slot)))
 freeing c =
     let part = c .before .before .before .before in
     let l = part .before .before .before in
@@ -87,26 +91,62 @@ same-length c = search needs
 returns-4 : tie.Need-returns-4
 returns-4 c = rw (freeing (c .before), c .if4 .taken) (refl, refl)
 
-clear-requires : tie.Need-clear-requires
-clear-requires c κs = fitting (c .before .before .before .before .before .before)
+-- the slot is one of its class's, so there is such a class
+classed : (c : tie.After-part) → c .before .before .before .locate .result .slot < c .part .result .slots
+    → c .before .before .before .locate .result .class < classes
+classed c h = slots-class _ _ _ (rw (c .part .ensures) at h)
 
-slot-size-requires : tie.Need-slot-size-requires
-slot-size-requires c κs = search needs
-
-cast-t22 : tie.Need-cast-t22
-cast-t22 c = rw (c .slot-size .ensures) (fits-below tt (slot-size-le _ _))
+count-requires : tie.Need-count-requires
+count-requires c κs =
+    let part = c .before .before .before .before .before .before in
+    (classed part (c .before .before .before .before .if3 .left), has-fields _ (part .before .before .before .before .before .before .before .before .pre))
 
 same-length-2 : tie.Need-same-length-2
 same-length-2 c = search needs
 
 returns-5 : tie.Need-returns-5
 returns-5 c =
-    let tested = c .before .before .before .before .before .before in
+    let none = sym (c .before .count .ensures) ∙ c .if5 .taken in
+    rw (freeing (c .before .before .before .before), c .before .before .before .if4 .left, eq-eqb _ 0 none) (refl, refl)
+
+clear-requires : tie.Need-clear-requires
+clear-requires c κs = fitting (c .before .before .before .before .before .before .before .before .before)
+
+sub-store-count : tie.Need-sub-store-count
+sub-store-count c = omega arith
+
+store-count-requires : tie.Need-store-count-requires
+store-count-requires c κs =
+    let counting = c .before .before .before .before .before .before .before in
+    let part = counting .before .before .before .before .before .before in
+    (classed part (counting .before .before .before .before .if3 .left), omega (arith, has-fields _ (part .before .before .before .before .before .before .before .before .pre)))
+
+slot-size-requires : tie.Need-slot-size-requires
+slot-size-requires c κs = search needs
+
+cast-t28 : tie.Need-cast-t28
+cast-t28 c = rw (c .slot-size .ensures) (fits-below tt (slot-size-le _ _))
+
+same-length-3 : tie.Need-same-length-3
+same-length-3 c = search needs
+
+returns-6 : tie.Need-returns-6
+returns-6 c =
+    let cleared = c .before .before .before .before .before .before .before in
+    let counted = cleared .before .before .before in
+    let tested = counted .before .before .before in
     let part = tested .before .before .before .before in
     let l = part .before .before .before in
-    rw (freeing tested, c .before .before .before .before .before .if4 .left) (
+    let some : countOf (l .locate .result .class) (l .before .before .before .before .before .args .metadata .now) ≡ 0 → ⊥ =
+    λ e. cleared .before .before .if5 .left (counted .count .ensures ∙ e) in
+    rw (freeing tested, counted .before .before .if4 .left, ne-eqb _ 0 some) (
       rw (c .slot-size .ensures),
-      c .before .before .before .clear .ensures ∙ part-changed _ _ (part .part .ensures) _ (λ b n. clearSlot b n (l .locate .result .slot)),
+      c .before .before .before .store-count .ensures
+          ∙ rw (
+            cleared .clear .ensures,
+            part-changed _ _ (part .part .ensures) _ (λ b n. clearSlot b n (l .locate .result .slot)),
+            counted .count .ensures,
+          ),
     )
 
 pub free-spec : {M : Type 1} → statement M
@@ -124,8 +164,13 @@ free-spec =
     is-set-requires
     same-length
     returns-4
-    clear-requires
-    slot-size-requires
-    cast-t22
+    count-requires
     same-length-2
-    returns-5)
+    returns-5
+    clear-requires
+    sub-store-count
+    store-count-requires
+    slot-size-requires
+    cast-t28
+    same-length-3
+    returns-6)
