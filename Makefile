@@ -6,7 +6,7 @@
 # make soak     the differential test for SOAK_CALLS (100000000) calls, from a seed that it prints; SEED=N repeats one
 # make expected writes what benchrun and conformance must print (crates/*/stdout) anew, by the second implementation
 # make table    writes the table of classes (crates/geometry/src/table.rt) anew by its rule, programs/table
-# make bench    ratios against the second implementation, memcpy, memcmp and malloc
+# make bench    ratios against the second implementation, memcpy, memset, memcmp and malloc
 # make instructions  how many instructions a request takes; wants valgrind
 .PHONY: run programs test lib fuzz fuzz-tools soak expected table bench instructions
 

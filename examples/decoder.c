@@ -12,6 +12,9 @@
 
 enum { REGION = 4096, LINE = 128, NAME = 16, COPIES = 3, OUTPUT = 256 };
 
+/* What clear slots hold, in all copies the same. */
+#define PATTERN 0xB5E3C7A9
+
 /* One signal of the log. */
 struct signal {
     struct signal *next;
@@ -118,7 +121,7 @@ int main(void)
     for (int i = 0; i < COPIES; i++) {
         const poheldu_heap h = {heaps[i], sizeof heaps[i], metadata[i], sizeof metadata[i]};
         const poheldu_answer opened =
-            poheldu_open(h.heap, h.heap_len, h.metadata, h.metadata_len, seeds[i][0], seeds[i][1]);
+            poheldu_open(h.heap, h.heap_len, h.metadata, h.metadata_len, seeds[i][0], seeds[i][1], PATTERN);
         if (opened.number != POHELDU_SERVED) {
             fprintf(stderr, "copy %d: %s\n", i, poheldu_name(opened.number));
             return 1;

@@ -1,7 +1,7 @@
 /*
  * The instructors' viewer: prints the objects of a decoder's heap where they lie, without a copy. The decoder withdraws
  * a signal of its search log and keeps the pointer to it. The viewer does not ask which one that is: where an object is
- * freed it is shown a page instead, and never what the heap still holds there.
+ * freed it is shown a page instead, and never what the heap holds there.
  */
 #include "poheldu.h"
 
@@ -10,6 +10,9 @@
 #include <string.h>
 
 enum { REGION = 1024, SIGNALS = 4, TEXT = 64, WANTED = 40 };
+
+/* Of its bytes none is a character: where an object is longer than its text, they show as dots. */
+#define PATTERN 0xB5E3C7A9
 
 /* One signal of the log. */
 struct signal {
@@ -45,7 +48,7 @@ int main(void)
     static _Alignas(16) uint8_t heap[POHELDU_HEAP_BYTES(REGION)];
     static uint8_t metadata[POHELDU_METADATA_BYTES(REGION)];
     const poheldu_heap h = {heap, sizeof heap, metadata, sizeof metadata};
-    const poheldu_answer opened = poheldu_open(heap, sizeof heap, metadata, sizeof metadata, 7, 11);
+    const poheldu_answer opened = poheldu_open(heap, sizeof heap, metadata, sizeof metadata, 7, 11, PATTERN);
     if (opened.number != POHELDU_SERVED) {
         fprintf(stderr, "opening: %s\n", poheldu_name(opened.number));
         return 1;
@@ -56,7 +59,7 @@ int main(void)
         if (signals[i] == NULL)
             return 1;
     }
-    poheldu_delete(&h, signals[2]); /* withdrawn; its text is still on the heap */
+    poheldu_delete(&h, signals[2]); /* withdrawn; the heap holds the pattern there */
     for (int i = 0; i < SIGNALS; i++)
         show(&h, signals[i]);
     show(&h, signals[0] + strlen("minute 3, 41 m: ")); /* from the name on */

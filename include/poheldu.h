@@ -2,9 +2,10 @@
  * Poheldu: a heap for C programs in which every function is proved.
  *
  * Objects are placed at random in size classes, wrong frees are refused and do no harm, copies and
- * reads end where their object ends, and replicas vote on their output. The caller lends two
- * buffers and keeps them: the heap, whose bytes the program's objects have, and its metadata, which
- * only these functions write. The library has no state of its own and allocates nothing.
+ * reads end where their object ends, an inspection finds what was written past objects or after
+ * their free, and replicas vote on their output. The caller lends two buffers and keeps them: the
+ * heap, whose bytes the program's objects have, and its metadata, which only these functions write.
+ * The library has no state of its own and allocates nothing.
  *
  * A first program:
  *
@@ -17,7 +18,8 @@
  *     int main(void)
  *     {
  *         const poheldu_heap h = {heap, sizeof heap, metadata, sizeof metadata};
- *         poheldu_answer a = poheldu_open(heap, sizeof heap, metadata, sizeof metadata, 7, 11);
+ *         poheldu_answer a =
+ *             poheldu_open(heap, sizeof heap, metadata, sizeof metadata, 7, 11, 0xB5E3C7A9);
  *         char *name = poheldu_new(&h, 8);
  *         if (a.number != POHELDU_SERVED || name == NULL)
  *             return 1;
@@ -37,9 +39,9 @@
  *            outside them. Where it is refused, its number is above 0 and its value 0, and no byte
  *            of any buffer has changed. Checks are made in the order in which a function names
  *            them; the first that fails is the answer.
- * Buffers    A pointer and a length. They need no alignment. Where objects are to be more than
- *            bytes, C asks for a heap without a declared type, as malloc gives; gcc and clang take
- *            an array of uint8_t all the same.
+ * Buffers    A pointer and a length. They need no alignment, but for a list, which is one of
+ *            uint32_t. Where objects are to be more than bytes, C asks for a heap without a
+ *            declared type, as malloc gives; gcc and clang take an array of uint8_t all the same.
  * Null       A pointer may be null where its length is 0; one to a poheldu_heap is never null.
  * Overlap    No two buffers of one call overlap where one of them is written. The copies with plain
  *            arguments (poheldu_memcpy to poheldu_copy_padded) take care of a source that lies in
@@ -139,19 +141,33 @@ extern "C" {
 #define POHELDU_SLOTS(region, c) ((size_t)(region) / POHELDU_SLOT_BYTES(c))
 #define POHELDU_CAPACITY(region, c) (POHELDU_SLOTS(region, c) / 2)
 
+/*
+ * How many slots such a heap has in all classes: no inspection lists more, and so a list of as many
+ * numbers is never too short. 0 where no heap has such regions.
+ */
+#define POHELDU_ALL_SLOTS(region) (POHELDU_IS_REGION(region) ? POHELDU_SUM_SLOTS_(region) : 0)
+#define POHELDU_SUM_SLOTS_(region)                                                    \
+    (POHELDU_SLOTS(region, 0) + POHELDU_SLOTS(region, 1) + POHELDU_SLOTS(region, 2) + \
+     POHELDU_SLOTS(region, 3) + POHELDU_SLOTS(region, 4) + POHELDU_SLOTS(region, 5) + \
+     POHELDU_SLOTS(region, 6) + POHELDU_SLOTS(region, 7) + POHELDU_SLOTS(region, 8) + \
+     POHELDU_SLOTS(region, 9) + POHELDU_SLOTS(region, 10) + POHELDU_SLOTS(region, 11))
+
 /* No object is longer: 16,384 bytes, a slot of the last class. */
 #define POHELDU_LARGEST_OBJECT POHELDU_SLOT_BYTES(POHELDU_CLASSES - 1)
 
 /*
  * Metadata: the generator's two halves, z and w, then for each class the number of its live slots,
- * four bytes each, lowest first; then for each class a bit for each slot, eight to a byte, rounded
- * up. What opening and requests leave counts as many slots as have their bit set.
+ * then the pattern, four bytes each, lowest first; then for each class a bit for each slot, eight
+ * to a byte, rounded up. What opening and requests leave counts as many slots as have their bit
+ * set.
  *
  * Other metadata is believed in its counts, by which a class is at capacity, until they give it
- * away. Then CORRUPT_METADATA refuses: every request and read while the count of any class is above
- * its capacity; an allocation that finds no clear slot; a free of a live slot where the count is 0.
+ * away. Then CORRUPT_METADATA refuses: every request, read and inspection while the count of any
+ * class is above its capacity; an allocation that finds no clear slot; a free of a live slot where
+ * the count is 0.
  */
-#define POHELDU_FIELD_BYTES ((2 + POHELDU_CLASSES) * sizeof(uint32_t))
+#define POHELDU_PATTERN_AT ((2 + POHELDU_CLASSES) * sizeof(uint32_t))
+#define POHELDU_FIELD_BYTES (POHELDU_PATTERN_AT + sizeof(uint32_t))
 #define POHELDU_BITMAP_BYTES(region, c) ((POHELDU_SLOTS(region, c) + 7) / 8)
 #define POHELDU_BITMAPS_BYTES_(region)                                   \
     (POHELDU_BITMAP_BYTES(region, 0) + POHELDU_BITMAP_BYTES(region, 1) + \
@@ -202,7 +218,8 @@ typedef enum {
     POHELDU_NOT_ALLOCATED = 10,    /* a free of what is not live */
     POHELDU_INVALID_VOTE = 11,     /* a number of replicas or a length that is not allowed */
     POHELDU_NO_AGREEMENT = 12,     /* no two blocks are equal */
-    POHELDU_CORRUPT_METADATA = 13  /* live counts that opening and requests never leave */
+    POHELDU_CORRUPT_METADATA = 13, /* live counts that opening and requests never leave */
+    POHELDU_LIST_TOO_SHORT = 14    /* an inspection finds more slots than its list has room for */
 } poheldu_refusal;
 
 /*
@@ -218,7 +235,7 @@ static inline const char *poheldu_name(uint32_t number)
         "metadata length",  "malformed request", "unsupported size",
         "class too small",  "class at capacity", "out of range",
         "not a slot start", "not allocated",     "invalid vote",
-        "no agreement",     "corrupt metadata",
+        "no agreement",     "corrupt metadata",  "list too short",
     };
     return number < sizeof names / sizeof *names ? names[number] : "unknown";
 }
@@ -226,21 +243,29 @@ static inline const char *poheldu_name(uint32_t number)
 /* ---- The library */
 
 /*
- * Opens a heap: writes fresh metadata, in which nothing is allocated, and leaves the heap alone.
+ * Opens a heap: writes fresh metadata, in which nothing is allocated, and fills every slot with
+ * the pattern, over and over from the slot's first byte; that takes little longer than a memset of
+ * the heap. Bytes outside slots, in regions that are shorter than a slot of their class, are kept.
  * Value 0. Refuses HEAP_LENGTH, METADATA_LENGTH, ZERO_SEED.
  *
- * heap, heap_len          the heap; only its length matters
+ * heap, heap_len          written: what its slots held is lost
  * metadata, metadata_len  written; as long as poheldu_metadata_length(heap_len)
  * z, w                    seeds, neither of them 0: the same seeds place the same requests in the
  *                         same slots, so take new ones for each run
+ * pattern                 what clear slots, those that are not live, hold for poheldu_inspect to
+ *                         look for: four bytes, the number's, lowest first. Any will do, but a
+ *                         stray write of just these bytes is not seen: take one that is unlikely in
+ *                         data. 0xB5E3C7A9 is: its bytes are all different, none of them 0 or a
+ *                         character, and as a pointer it leads nowhere. The pattern is stored in
+ *                         the metadata, and so no secret from those who read these
  *
- *     poheldu_answer a = poheldu_open(heap, sizeof heap, metadata, sizeof metadata, z, w);
+ *     poheldu_answer a = poheldu_open(heap, sizeof heap, metadata, sizeof metadata, z, w, pattern);
  *     if (a.number != POHELDU_SERVED)
  *         abort();
  */
-POHELDU_NODISCARD poheldu_answer poheldu_open(const uint8_t *heap, size_t heap_len,
-                                              uint8_t *metadata, size_t metadata_len, uint32_t z,
-                                              uint32_t w);
+POHELDU_NODISCARD poheldu_answer poheldu_open(uint8_t *heap, size_t heap_len, uint8_t *metadata,
+                                              size_t metadata_len, uint32_t z, uint32_t w,
+                                              uint32_t pattern);
 
 /*
  * Serves a request, of which poheldu_pack makes the bytes: for programs that have requests as
@@ -248,7 +273,7 @@ POHELDU_NODISCARD poheldu_answer poheldu_open(const uint8_t *heap, size_t heap_l
  * answers. Refuses HEAP_LENGTH, METADATA_LENGTH, CORRUPT_METADATA, MALFORMED_REQUEST, then what the
  * request's operation refuses.
  *
- * heap, heap_len          written by copies; only its length matters to the answer
+ * heap, heap_len          written by copies and frees; only its length matters to the answer
  * metadata, metadata_len  read by all, written by allocate and free
  * request, request_len    16 bytes
  * source, source_len      what a copy reads; else not looked at
@@ -288,6 +313,35 @@ POHELDU_NODISCARD poheldu_part poheldu_read(const uint8_t *heap, size_t heap_len
                                             const uint8_t *metadata, size_t metadata_len,
                                             uint32_t offset, uint32_t count, const uint8_t *page,
                                             size_t page_len);
+
+/*
+ * Inspects a heap: lists, rising, the offsets at which those clear slots start that do not hold the
+ * pattern throughout. Since opening or a free filled such a slot, something wrote to it that had
+ * no object there: past the end of another, or after the free of its own. The value is how many
+ * slots are listed. Refuses HEAP_LENGTH, METADATA_LENGTH, CORRUPT_METADATA (a count above its
+ * class's capacity, and nothing else), LIST_TOO_SHORT.
+ *
+ * It does not see what was written to a live slot, where nobody but its owner knows what belongs;
+ * to a slot that was allocated and freed since; and to bytes outside slots. It is no request, and
+ * requests answer the same whatever it would list.
+ *
+ * heap, heap_len          read: this is the one call whose answer depends on the heap's bytes
+ * metadata, metadata_len  read
+ * list, list_len          written: the offsets go to its front, further entries are kept. list_len
+ *                         counts numbers, not bytes; a list of POHELDU_ALL_SLOTS is never too short
+ *
+ * It reads the bits of all slots and every byte of the clear ones, all of the heap where nothing is
+ * live: something for the end of a job, or for now and then in a long one, not for each request.
+ *
+ *     static uint32_t found[POHELDU_ALL_SLOTS(1024)];
+ *     poheldu_answer a = poheldu_inspect(heap, sizeof heap, metadata, sizeof metadata,
+ *                                        found, sizeof found / sizeof *found);
+ *     for (uint32_t i = 0; i < a.value; i++)
+ *         fprintf(stderr, "stray bytes in the slot at %u\n", found[i]);
+ */
+POHELDU_NODISCARD poheldu_answer poheldu_inspect(const uint8_t *heap, size_t heap_len,
+                                                 const uint8_t *metadata, size_t metadata_len,
+                                                 uint32_t *list, size_t list_len);
 
 /*
  * A vote of replicas on a block of output: the content that most replicas share wins, if two or
@@ -332,7 +386,8 @@ typedef struct {
 
 /*
  * A new object of size bytes, or null where poheldu_allocate, which says why, is refused. Its bytes
- * are what the heap held. Size 0 gives an object of 8 bytes, so that null means a refusal alone.
+ * are what the slot held: the pattern, unless something wrote there. Size 0 gives an object of 8
+ * bytes, so that null means a refusal alone.
  *
  *     struct signal *s = (struct signal *)poheldu_new(h, sizeof *s);
  *     if (s == NULL)
@@ -341,9 +396,10 @@ typedef struct {
 POHELDU_NODISCARD static inline void *poheldu_new(const poheldu_heap *h, size_t size);
 
 /*
- * Frees the object that starts at p. The value is its slot's size. Refuses OUT_OF_RANGE,
- * NOT_A_SLOT_START, NOT_ALLOCATED, CORRUPT_METADATA, and then does no harm. Null is no object:
- * nothing is done, and that is served with value 0.
+ * Frees the object that starts at p, and fills its slot with the pattern, all bytes of it. The
+ * value is the slot's size. Refuses OUT_OF_RANGE, NOT_A_SLOT_START, NOT_ALLOCATED,
+ * CORRUPT_METADATA, and then does no harm. Null is no object: nothing is done, and that is served
+ * with value 0.
  *
  *     poheldu_delete(h, p);
  */
@@ -373,7 +429,7 @@ typedef struct {
  * bytes is null exactly where p points into no live object or the call is refused.
  *
  * The bytes are the object's own: what is written to it later shows in them, and once it is freed
- * they may become another object's.
+ * they are filled with the pattern and may become another object's.
  *
  *     poheldu_view v = poheldu_look(h, p, 80, "[freed]", 7);
  *     fwrite(v.bytes, 1, v.len, stdout);
@@ -516,8 +572,8 @@ POHELDU_NODISCARD static inline poheldu_answer poheldu_allocate(const poheldu_he
 }
 
 /*
- * Frees the object that starts at an offset. The value is its slot's size. Refuses OUT_OF_RANGE,
- * NOT_A_SLOT_START, NOT_ALLOCATED, CORRUPT_METADATA.
+ * Frees the object that starts at an offset, and fills its slot with the pattern. The value is its
+ * slot's size. Refuses OUT_OF_RANGE, NOT_A_SLOT_START, NOT_ALLOCATED, CORRUPT_METADATA.
  *
  *     poheldu_free(h, offset);
  */
@@ -629,6 +685,118 @@ static inline poheldu_answer poheldu_copy_padded(const poheldu_heap *h, size_t o
                                                  const void *source, size_t len, size_t count)
 {
     return poheldu_copy_(h, POHELDU_COPY_PADDED, offset, count, source, len);
+}
+
+/* ---- Canaries
+ *
+ * A clear slot holds the pattern as a canary: a write past the end of an object or after its free
+ * changes it, unless another object is live there. An inspection lists such slots; what they are,
+ * and what was written to them, these functions say.
+ */
+
+/*
+ * How many slots a heap has in all classes: a list of so many numbers is never too short. 0 where
+ * no heap has this length. Where the length is a constant, POHELDU_ALL_SLOTS is the same.
+ *
+ *     uint32_t *found = (uint32_t *)malloc(poheldu_slot_count(h) * sizeof *found);
+ */
+POHELDU_NODISCARD static inline size_t poheldu_slot_count(const poheldu_heap *h)
+{
+    const size_t region = h->heap_len / POHELDU_CLASSES;
+    return h->heap_len % POHELDU_CLASSES == 0 ? POHELDU_ALL_SLOTS(region) : 0;
+}
+
+/*
+ * Inspects a heap, as poheldu_inspect does.
+ *
+ *     poheldu_answer a = poheldu_check(h, list, list_len);
+ *     if (a.number == POHELDU_SERVED && a.value > 0)
+ *         fprintf(stderr, "%u slots were written to\n", a.value);
+ */
+POHELDU_NODISCARD static inline poheldu_answer poheldu_check(const poheldu_heap *h, uint32_t *list,
+                                                             size_t list_len)
+{
+    return poheldu_inspect(h->heap, h->heap_len, h->metadata, h->metadata_len, list, list_len);
+}
+
+/* A slot, live or clear: its class and its number there, both from 0, and where its bytes lie. */
+typedef struct {
+    uint32_t size_class, number, start, len;
+} poheldu_slot;
+
+/*
+ * The slot of a class with a number. Its len is 0, and all else too, where the heap has none such.
+ *
+ *     for (uint32_t i = 0; poheldu_slot_of(h, 3, i).len > 0; i++)
+ *         putchar(poheldu_remaining(h, poheldu_slot_of(h, 3, i).start).value > 0 ? '#' : '.');
+ */
+POHELDU_NODISCARD static inline poheldu_slot poheldu_slot_of(const poheldu_heap *h,
+                                                             size_t size_class, size_t number)
+{
+    const size_t region = h->heap_len / POHELDU_CLASSES;
+    poheldu_slot slot = {0, 0, 0, 0};
+    if (poheldu_slot_count(h) == 0 || size_class >= POHELDU_CLASSES ||
+        number >= POHELDU_SLOTS(region, size_class))
+        return slot;
+    slot.size_class = (uint32_t)size_class;
+    slot.number = (uint32_t)number;
+    slot.start = (uint32_t)(size_class * region + number * POHELDU_SLOT_BYTES(size_class));
+    slot.len = (uint32_t)POHELDU_SLOT_BYTES(size_class);
+    return slot;
+}
+
+/*
+ * The slot that an offset lies in, at its start or further on. Its len is 0, and all else too,
+ * where it lies in none.
+ *
+ *     poheldu_slot s = poheldu_slot_at(h, list[0]);
+ *     fprintf(stderr, "class %u, slot %u\n", s.size_class, s.number);
+ */
+POHELDU_NODISCARD static inline poheldu_slot poheldu_slot_at(const poheldu_heap *h, size_t offset)
+{
+    const size_t region = h->heap_len / POHELDU_CLASSES;
+    const size_t size_class = region > 0 ? offset / region : POHELDU_CLASSES;
+    if (size_class >= POHELDU_CLASSES)
+        return poheldu_slot_of(h, POHELDU_CLASSES, 0);
+    return poheldu_slot_of(h, size_class, offset % region / POHELDU_SLOT_BYTES(size_class));
+}
+
+/*
+ * The pattern that the metadata have, as poheldu_open was given it; 0 where they are too short to
+ * have one.
+ *
+ *     poheldu_answer a = poheldu_open(h->heap, h->heap_len, h->metadata, h->metadata_len, z, w,
+ *                                     poheldu_pattern(h));
+ */
+POHELDU_NODISCARD static inline uint32_t poheldu_pattern(const poheldu_heap *h)
+{
+    if (h->metadata_len < POHELDU_FIELD_BYTES)
+        return 0;
+    const uint8_t *const p = h->metadata + POHELDU_PATTERN_AT;
+    return (uint32_t)p[0] | (uint32_t)p[1] << 8 | (uint32_t)p[2] << 16 | (uint32_t)p[3] << 24;
+}
+
+/*
+ * Shows what was written to a slot of this heap that an inspection lists: its bytes from the first
+ * to the last that are not the pattern's. Where it holds the pattern throughout, none: null and 0.
+ *
+ *     poheldu_view v = poheldu_stray_bytes(h, poheldu_slot_at(h, list[0]));
+ *     fwrite(v.bytes, 1, v.len, stderr);
+ */
+POHELDU_NODISCARD static inline poheldu_view poheldu_stray_bytes(const poheldu_heap *h,
+                                                                 poheldu_slot slot)
+{
+    const uint32_t pattern = poheldu_pattern(h);
+    poheldu_view view = {NULL, 0};
+    for (uint32_t i = 0; i < slot.len; i++) {
+        const uint8_t *const at = h->heap + slot.start + i;
+        if (*at == (uint8_t)(pattern >> i % 4 * 8))
+            continue;
+        if (view.bytes == NULL)
+            view.bytes = at;
+        view.len = (size_t)(at - view.bytes) + 1;
+    }
+    return view;
 }
 
 /* ---- What the functions by pointer do */

@@ -22,6 +22,9 @@ extern "C"
 
 enum { FAILURES_SHOWN = 20 };
 
+/* What clear slots hold: its bytes are all different. */
+#define PATTERN 0xB5E3C7A9
+
 static unsigned long checks, failures;
 
 static void expect(int holds, const char *what, int line)
@@ -89,7 +92,7 @@ static poheldu_heap opened(size_t region)
     h.heap = (uint8_t *)allocated(h.heap_len);
     h.metadata = (uint8_t *)allocated(h.metadata_len);
     fill(h.heap, h.heap_len);
-    EXPECT(is(poheldu_open(h.heap, h.heap_len, h.metadata, h.metadata_len, 7, 11), POHELDU_SERVED, 0));
+    EXPECT(is(poheldu_open(h.heap, h.heap_len, h.metadata, h.metadata_len, 7, 11, PATTERN), POHELDU_SERVED, 0));
     return h;
 }
 
@@ -598,8 +601,9 @@ static void counts_above_half(void)
             EXPECT(is(poheldu_strcpy(&h, p, "Anna"), POHELDU_CORRUPT_METADATA, 0));
             EXPECT(is(poheldu_request(&h, UINT8_MAX, 0, 0, NULL, 0), POHELDU_CORRUPT_METADATA, 0));
             EXPECT(poheldu_usable_size(&h, p) == 0 && shows(poheldu_look(&h, p, 4, page, 9), page, 0));
+            EXPECT(is(poheldu_check(&h, NULL, 0), POHELDU_CORRUPT_METADATA, 0));
             EXPECT(same(h, before));
-            EXPECT(is(poheldu_open(h.heap, h.heap_len, h.metadata, h.metadata_len, 7, 11), POHELDU_SERVED, 0));
+            EXPECT(is(poheldu_open(h.heap, h.heap_len, h.metadata, h.metadata_len, 7, 11, PATTERN), POHELDU_SERVED, 0));
             EXPECT(is(poheldu_allocate(&h, 100), POHELDU_SERVED, offset));
             closed(before);
             closed(h);
@@ -627,13 +631,135 @@ static void counts_believed(void)
     closed(h);
 }
 
+/* ---- canaries */
+
+static int is_slot(poheldu_slot s, uint32_t size_class, uint32_t number, uint32_t start, uint32_t len)
+{
+    return s.size_class == size_class && s.number == number && s.start == start && s.len == len;
+}
+
+static int is_no_slot(poheldu_slot s)
+{
+    return is_slot(s, 0, 0, 0, 0);
+}
+
+/* Every offset lies in one slot, that of its class and number, or in none where its region is shorter than a slot. */
+static void slots_everywhere(void)
+{
+    const poheldu_heap h = opened(1024);
+    size_t starts = 0;
+    for (size_t offset = 0; offset < h.heap_len; offset++) {
+        const size_t c = offset / 1024, len = POHELDU_SLOT_BYTES(c), number = offset % 1024 / len;
+        const poheldu_slot s = poheldu_slot_at(&h, offset), same_slot = poheldu_slot_of(&h, c, number);
+        if (len > 1024) {
+            EXPECT(is_no_slot(s) && is_no_slot(same_slot));
+            continue;
+        }
+        EXPECT(is_slot(s, (uint32_t)c, (uint32_t)number, (uint32_t)(offset - offset % len), (uint32_t)len));
+        EXPECT(is_slot(same_slot, s.size_class, s.number, s.start, s.len));
+        starts += s.start == offset;
+    }
+    EXPECT(starts == poheldu_slot_count(&h) && starts == POHELDU_ALL_SLOTS(1024));
+    closed(h);
+}
+
+/* What is no slot, and heaps that are none. */
+static void no_slots(void)
+{
+    const poheldu_heap h = opened(1024), nowhere = {NULL, 0, NULL, 0},
+                       cut = {h.heap, h.heap_len - 1, h.metadata, h.metadata_len},
+                       wrong = {h.heap, 12 * 1000, h.metadata, h.metadata_len};
+    EXPECT(is_no_slot(poheldu_slot_at(&h, h.heap_len)) && is_no_slot(poheldu_slot_at(&h, SIZE_MAX)));
+    EXPECT(is_no_slot(poheldu_slot_of(&h, 0, 128)) && is_no_slot(poheldu_slot_of(&h, 0, SIZE_MAX)));
+    EXPECT(is_no_slot(poheldu_slot_of(&h, 8, 0)) && is_no_slot(poheldu_slot_of(&h, 12, 0)));
+    EXPECT(is_no_slot(poheldu_slot_of(&h, SIZE_MAX, 0)) && is_slot(poheldu_slot_of(&h, 7, 0), 7, 0, 7 * 1024, 1024));
+    const poheldu_heap none[] = {nowhere, cut, wrong};
+    for (size_t i = 0; i < sizeof none / sizeof *none; i++) {
+        EXPECT(poheldu_slot_count(&none[i]) == 0);
+        EXPECT(is_no_slot(poheldu_slot_at(&none[i], 0)) && is_no_slot(poheldu_slot_of(&none[i], 0, 0)));
+        EXPECT(shows(poheldu_stray_bytes(&none[i], poheldu_slot_at(&none[i], 0)), NULL, 0));
+        EXPECT(is(poheldu_check(&none[i], NULL, 0), POHELDU_HEAP_LENGTH, 0));
+    }
+    EXPECT(poheldu_pattern(&h) == PATTERN && poheldu_pattern(&cut) == PATTERN && poheldu_pattern(&nowhere) == 0);
+    closed(h);
+}
+
+/* Opening paints every slot from its first byte on, and leaves what lies outside slots. */
+static void opening_paints(void)
+{
+    poheldu_heap h = opened(1024), before;
+    fill(h.heap, h.heap_len);
+    before = twin_of(h);
+    EXPECT(is(poheldu_open(h.heap, h.heap_len, h.metadata, h.metadata_len, 0, 11, PATTERN), POHELDU_ZERO_SEED, 0));
+    EXPECT(same(h, before));
+    EXPECT(is(poheldu_open(h.heap, h.heap_len, h.metadata, h.metadata_len, 7, 11, PATTERN), POHELDU_SERVED, 0));
+    for (size_t at = 0; at < h.heap_len; at++) {
+        const poheldu_slot s = poheldu_slot_at(&h, at);
+        EXPECT(h.heap[at] == (s.len > 0 ? (uint8_t)(PATTERN >> (at - s.start) % 4 * 8) : before.heap[at]));
+    }
+    EXPECT(is(poheldu_check(&h, NULL, 0), POHELDU_SERVED, 0));
+    closed(before);
+    closed(h);
+}
+
+/* A write past an object and one after a free, in lists of every length; entries past the listed ones are kept. */
+static void stray_writes(void)
+{
+    const poheldu_heap h = opened(4096);
+    char *const p = (char *)poheldu_new(&h, 16), *const freed = (char *)poheldu_new(&h, 8);
+    EXPECT(is(poheldu_strcpy(&h, p, "a name that is clipped"), POHELDU_SERVED, 16));
+    EXPECT(is(poheldu_delete(&h, freed), POHELDU_SERVED, 8) && is(poheldu_check(&h, NULL, 0), POHELDU_SERVED, 0));
+    memcpy(p, "a name that is not", 18);
+    memcpy(freed + 3, "x", 1);
+    memcpy(freed + 5, "y", 1);
+    const uint32_t after = poheldu_offset(&h, p + 16), gone = poheldu_offset(&h, freed);
+    uint32_t list[4];
+    for (size_t len = 0; len <= 4; len++) {
+        const int fits = len >= 2;
+        memset(list, 0xEE, sizeof list);
+        EXPECT(is(poheldu_check(&h, list, len), fits ? POHELDU_SERVED : POHELDU_LIST_TOO_SHORT, fits ? 2 : 0));
+        EXPECT(list[0] == (fits ? gone : 0xEEEEEEEE) && list[1] == (fits ? after : 0xEEEEEEEE));
+        EXPECT(list[2] == 0xEEEEEEEE && list[3] == 0xEEEEEEEE);
+    }
+    EXPECT(shows(poheldu_stray_bytes(&h, poheldu_slot_at(&h, after)), p + 16, 2));
+    EXPECT(shows(poheldu_stray_bytes(&h, poheldu_slot_at(&h, gone)), freed + 3, 3));
+    EXPECT(shows(poheldu_stray_bytes(&h, poheldu_slot_of(&h, 5, 0)), NULL, 0));
+    closed(h);
+}
+
+/* A served free paints its slot with the pattern that the metadata have; a refused one paints nothing. */
+static void frees_paint(void)
+{
+    const poheldu_heap h = opened(1024);
+    for (size_t size = 1; size <= 512; size *= 2) {
+        uint8_t *const p = (uint8_t *)poheldu_new(&h, size);
+        const poheldu_slot s = poheldu_slot_at(&h, poheldu_offset(&h, p));
+        memset(p, 'x', s.len);
+        EXPECT(is(poheldu_delete(&h, p + 1), POHELDU_NOT_A_SLOT_START, 0) && *p == 'x');
+        EXPECT(is(poheldu_delete(&h, p), POHELDU_SERVED, s.len) && shows(poheldu_stray_bytes(&h, s), NULL, 0));
+        memset(p, 'y', 1);
+        EXPECT(is(poheldu_delete(&h, p), POHELDU_NOT_ALLOCATED, 0) && shows(poheldu_stray_bytes(&h, s), p, 1));
+        memcpy(p, h.heap + s.start + 4, 1);
+    }
+    uint32_t *const list = (uint32_t *)allocated(poheldu_slot_count(&h) * sizeof *list);
+    EXPECT(is(poheldu_check(&h, list, poheldu_slot_count(&h)), POHELDU_SERVED, 0));
+    h.metadata[POHELDU_PATTERN_AT] ^= 1; /* now no slot holds the pattern */
+    EXPECT(is(poheldu_check(&h, list, poheldu_slot_count(&h)), POHELDU_SERVED, (uint32_t)poheldu_slot_count(&h)));
+    EXPECT(is(poheldu_check(&h, list, poheldu_slot_count(&h) - 1), POHELDU_LIST_TOO_SHORT, 0));
+    free(list);
+    closed(h);
+}
+
 /* ---- macros */
 
 typedef uint8_t heap_array[POHELDU_HEAP_BYTES(1024)], metadata_array[POHELDU_METADATA_BYTES(1 << 12)];
 static_assert(sizeof(heap_array) == 12 * 1024, "twelve regions");
-static_assert(POHELDU_METADATA_BYTES(1024) == 90 && sizeof(metadata_array) == 186, "as the rules have it");
-static_assert(POHELDU_METADATA_BYTES(1048576) == 32816 && POHELDU_LARGEST_OBJECT == 16384, "as the rules have it");
+static_assert(POHELDU_METADATA_BYTES(1024) == 94 && sizeof(metadata_array) == 190, "as the rules have it");
+static_assert(POHELDU_METADATA_BYTES(1048576) == 32820 && POHELDU_LARGEST_OBJECT == 16384, "as the rules have it");
+static_assert(POHELDU_PATTERN_AT == 56 && POHELDU_FIELD_BYTES == 60, "as the rules have it");
+static_assert(POHELDU_ALL_SLOTS(1024) == 255 && POHELDU_ALL_SLOTS(1048576) == 262080, "128 to 1, 131,072 to 64");
 static_assert(POHELDU_HEAP_BYTES(1000) == 0 && POHELDU_METADATA_BYTES(1000) == 0, "no region");
+static_assert(POHELDU_ALL_SLOTS(1000) == 0, "no region");
 
 static void macros(void)
 {
@@ -643,6 +769,10 @@ static void macros(void)
             const size_t heap_len = POHELDU_CLASSES * beside, metadata_len = poheldu_metadata_length(heap_len);
             EXPECT(POHELDU_METADATA_BYTES(beside) == metadata_len);
             EXPECT(POHELDU_HEAP_BYTES(beside) == (metadata_len > 0 ? heap_len : 0));
+            size_t slots = 0;
+            for (size_t c = 0; c < POHELDU_CLASSES && metadata_len > 0; c++)
+                slots += POHELDU_SLOTS(beside, c);
+            EXPECT(POHELDU_ALL_SLOTS(beside) == slots);
             regions += metadata_len > 0;
         }
     EXPECT(regions == 11);
@@ -664,6 +794,11 @@ int main(void)
     counts_of_objects();
     counts_above_half();
     counts_believed();
+    slots_everywhere();
+    no_slots();
+    opening_paints();
+    stray_writes();
+    frees_paint();
     looks_everywhere();
     destinations_outside();
     ends_of_texts();

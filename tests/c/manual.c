@@ -10,7 +10,7 @@
 #include <stdlib.h>
 #include <string.h>
 
-enum { COLUMNS = 6, LINE = 256, OPERATIONS = 16, NO_OBJECTS = -1 };
+enum { COLUMNS = 6, LINE = 256, OPERATIONS = 16, NO_OBJECTS = -1, PATTERN = 0x5AA55AA5 };
 
 static unsigned cells, names, operations, failures;
 
@@ -39,8 +39,10 @@ static poheldu_heap opened(size_t region)
 {
     const poheldu_heap h = {calloc(1, POHELDU_HEAP_BYTES(region)), POHELDU_HEAP_BYTES(region),
                             calloc(1, POHELDU_METADATA_BYTES(region)), POHELDU_METADATA_BYTES(region)};
-    const poheldu_answer a = poheldu_open(h.heap, h.heap_len, h.metadata, h.metadata_len, 7, 11);
-    if (h.heap == NULL || h.metadata == NULL || a.number != POHELDU_SERVED) {
+    if (h.heap == NULL || h.metadata == NULL)
+        abort();
+    const poheldu_answer a = poheldu_open(h.heap, h.heap_len, h.metadata, h.metadata_len, 7, 11, PATTERN);
+    if (a.number != POHELDU_SERVED) {
         printf("region of %zu bytes: %s\n", region, poheldu_name(a.number));
         exit(1);
     }

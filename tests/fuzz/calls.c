@@ -7,7 +7,10 @@
 #include <stdlib.h>
 #include <string.h>
 
-enum { NUMBERS = POHELDU_CORRUPT_METADATA + 1, OPERATIONS = 7, CLASSES = 12, REPLICAS = 16 };
+enum { NUMBERS = POHELDU_LIST_TOO_SHORT + 1, OPERATIONS = 7, CLASSES = 12, REPLICAS = 16 };
+
+/* Inspections that are told apart: by what they list, by what their list lacks, and those refused for a count. */
+enum { NOTHING, WITH_ROOM, JUST_ENOUGH, ONE_TOO_FEW, FEWER, CORRUPT, INSPECTIONS };
 
 static struct {
     uint64_t numbers[NUMBERS];   /* answers, by refusal number */
@@ -17,6 +20,7 @@ static struct {
     uint64_t strings[4];         /* strings copied: shorter than the space, as long with a zero, as long without, longer */
     uint64_t corrupt[3];         /* corrupt metadata: a count above half, no clear slot, a free by a count of 0 */
     uint64_t shown[2][2];        /* reads served, by of_page and by whether the part has a byte */
+    uint64_t inspected[INSPECTIONS];
 } seen;
 
 /* ---- differences */
@@ -144,6 +148,16 @@ static void count_served(lent_heap h, const twin *request, const twin *source, u
     seen.of_nothing += argument == 0;
 }
 
+static void count_inspection(poheldu_answer a, size_t list_len, size_t hits)
+{
+    if (a.number == POHELDU_SERVED)
+        seen.inspected[hits == 0 ? NOTHING : list_len > hits ? WITH_ROOM : JUST_ENOUGH]++;
+    else if (a.number == POHELDU_LIST_TOO_SHORT)
+        seen.inspected[list_len + 1 == hits ? ONE_TOO_FEW : FEWER]++;
+    else if (a.number == POHELDU_CORRUPT_METADATA)
+        seen.inspected[CORRUPT]++;
+}
+
 bool calls_saw_all(void)
 {
     bool all = seen.walks > 0 && seen.of_nothing > 0;
@@ -157,6 +171,8 @@ bool calls_saw_all(void)
         all = all && seen.corrupt[i] > 0;
     for (int i = 0; i < 2; i++)
         all = all && seen.shown[i][0] > 0 && seen.shown[i][1] > 0;
+    for (int i = 0; i < INSPECTIONS; i++)
+        all = all && seen.inspected[i] > 0;
     return all;
 }
 
@@ -178,16 +194,20 @@ void calls_report(void)
     fprintf(stderr, ", a free by a count of 0: %" PRIu64 "\n", seen.corrupt[2]);
     fprintf(stderr, "fuzz: parts shown of the heap: %" PRIu64 ", empty %" PRIu64 "; of the page: %" PRIu64 ", empty %" PRIu64 "\n", seen.shown[0][1],
             seen.shown[0][0], seen.shown[1][1], seen.shown[1][0]);
+    fprintf(stderr, "fuzz: inspections that list nothing: %" PRIu64 ", with room to spare: %" PRIu64 ", just enough: %" PRIu64,
+            seen.inspected[NOTHING], seen.inspected[WITH_ROOM], seen.inspected[JUST_ENOUGH]);
+    fprintf(stderr, ", one too few: %" PRIu64 ", fewer: %" PRIu64 ", corrupt metadata: %" PRIu64 "\n", seen.inspected[ONE_TOO_FEW],
+            seen.inspected[FEWER], seen.inspected[CORRUPT]);
     fprintf(stderr, "fuzz: %" PRIu64 " calls, %" PRIu64 " of them requests\n", calls, seen.requests);
 }
 
 /* ---- the calls */
 
-poheldu_answer call_open(lent_heap h, uint32_t z, uint32_t w)
+poheldu_answer call_open(lent_heap h, uint32_t z, uint32_t w, uint32_t pattern)
 {
     const twin *const heap = h.heap, *const metadata = h.metadata;
-    const poheldu_answer ours = poheldu_open(twin_ours(heap), heap->len, twin_ours(metadata), metadata->len, z, w);
-    const poheldu_answer theirs = reference_open(twin_theirs(heap), heap->len, twin_theirs(metadata), metadata->len, z, w);
+    const poheldu_answer ours = poheldu_open(twin_ours(heap), heap->len, twin_ours(metadata), metadata->len, z, w, pattern);
+    const poheldu_answer theirs = reference_open(twin_theirs(heap), heap->len, twin_theirs(metadata), metadata->len, z, w, pattern);
     require_same(ours, theirs, "an opening", BUFFERS(heap, metadata));
     seen.numbers[ours.number]++;
     return ours;
@@ -221,6 +241,27 @@ void call_read(lent_heap h, uint32_t offset, uint32_t count, const twin *page)
     seen.numbers[ours.number]++;
     if (ours.number == POHELDU_SERVED)
         seen.shown[ours.of_page > 0][ours.value > 0]++;
+}
+
+uint32_t hits_of(lent_heap h)
+{
+    static uint32_t all[MOST_LISTED];
+    return reference_inspect(twin_theirs(h.heap), h.heap->len, twin_theirs(h.metadata), h.metadata->len, all, MOST_LISTED).value;
+}
+
+poheldu_answer call_inspect(lent_heap h, const twin *list)
+{
+    const twin *const heap = h.heap, *const metadata = h.metadata;
+    const size_t list_len = list->len / sizeof(uint32_t);
+    const uint32_t hits = hits_of(h);
+    const poheldu_answer ours =
+        poheldu_inspect(twin_ours(heap), heap->len, twin_ours(metadata), metadata->len, (void *)twin_ours(list), list_len);
+    const poheldu_answer theirs =
+        reference_inspect(twin_theirs(heap), heap->len, twin_theirs(metadata), metadata->len, (void *)twin_theirs(list), list_len);
+    require_same(ours, theirs, "an inspection", BUFFERS(heap, metadata, list));
+    seen.numbers[ours.number]++;
+    count_inspection(ours, list_len, hits);
+    return ours;
 }
 
 void call_vote(const twin *blocks, size_t replicas, size_t block_len, const twin *output)

@@ -12,15 +12,22 @@ typedef struct {
     twin *heap, *metadata;
 } lent_heap;
 
-poheldu_answer call_open(lent_heap h, uint32_t z, uint32_t w);
+poheldu_answer call_open(lent_heap h, uint32_t z, uint32_t w, uint32_t pattern);
 poheldu_answer call_serve(lent_heap h, const twin *request, const twin *source, const twin *page);
 void call_read(lent_heap h, uint32_t offset, uint32_t count, const twin *page);
+poheldu_answer call_inspect(lent_heap h, const twin *list); /* the list's length in bytes is one of whole numbers */
 void call_vote(const twin *blocks, size_t replicas, size_t block_len, const twin *output);
 void call_metadata_length(size_t heap_len);
 
+/* No heap here has longer regions. */
+enum { LONGEST_REGION = 8192, MOST_LISTED = POHELDU_ALL_SLOTS(LONGEST_REGION) };
+
+/* How many slots an inspection has to list, by the second implementation; 0 where it is refused. */
+uint32_t hits_of(lent_heap h);
+
 /*
- * Whether every refusal, every operation served, the walk, and every kind of string, of corrupt metadata and of part
- * shown have come.
+ * Whether every refusal, every operation served, the walk, and every kind of string, of corrupt metadata, of part shown
+ * and of inspection have come.
  */
 bool calls_saw_all(void);
 

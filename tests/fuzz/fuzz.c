@@ -14,11 +14,11 @@
 enum { REGIONS = 4, SECONDS_TO_SEE_ALL = 30 };
 
 /* Short regions fill sooner, and comparing them takes less time; the differential test has all eleven lengths. */
-static const size_t region_lengths[REGIONS] = {1024, 4096, 2048, 8192};
+static const size_t region_lengths[REGIONS] = {1024, 4096, 2048, LONGEST_REGION};
 
 static struct {
     twin heaps[REGIONS], metadata[REGIONS];
-    twin request, source, page, blocks, output;
+    twin request, source, page, blocks, output, list;
 } made;
 
 /* ---- steps */
@@ -71,13 +71,15 @@ static void wrong_lengths(run *r)
         cut_or_stretch(&r->input, r->lent.metadata);
     if (which == 1 || which == 2)
         cut_or_stretch(&r->input, r->lent.heap);
-    const uint32_t call = below(&r->input, 3);
+    const uint32_t call = below(&r->input, 4);
     if (call == 0)
         serve_any(r);
     else if (call == 1)
         open_any(r);
-    else
+    else if (call == 2)
         read_any(r);
+    else
+        inspect_any(r);
     twin_lend(r->lent.heap, heap_len);
     twin_lend(r->lent.metadata, metadata_len);
 }
@@ -119,6 +121,12 @@ static void step(run *r)
     case 10:
         read_any(r);
         break;
+    case 11:
+        scribble(r);
+        break;
+    case 12:
+        inspect_any(r);
+        break;
     default:
         serve_any(r);
     }
@@ -138,6 +146,7 @@ static void make_buffers(void)
     made.page = twin_new("page", LONGEST_PAGE);
     made.blocks = twin_new("blocks", MOST_REPLICAS * LONGEST_BLOCK);
     made.output = twin_new("output", LONGEST_OUTPUT);
+    made.list = twin_new("list", LONGEST_LIST * sizeof(uint32_t));
 }
 
 /* At which end of its room each buffer lies. */
@@ -160,6 +169,7 @@ static run new_run(const uint8_t *data, size_t size)
     place(&made.blocks, (ends & 16) == 0, 0);
     place(&made.output, (ends & 32) == 0, 0);
     place(&made.page, (ends & 64) == 0, 0);
+    place(&made.list, (ends & 128) == 0, 0);
     return (run){.input = input,
                  .region = region,
                  .lent = {&made.heaps[which], &made.metadata[which]},
@@ -167,7 +177,8 @@ static run new_run(const uint8_t *data, size_t size)
                  .source = &made.source,
                  .page = &made.page,
                  .blocks = &made.blocks,
-                 .output = &made.output};
+                 .output = &made.output,
+                 .list = &made.list};
 }
 
 static void run_all(run *r)

@@ -1,6 +1,6 @@
 #include "run.h"
 
-enum { COUNTS_AT = 8, COUNTS_LEN = 4 * CLASSES, BITMAPS_AT = COUNTS_AT + COUNTS_LEN, DRAWS = 32 };
+enum { COUNTS_AT = 8, COUNTS_LEN = 4 * CLASSES, PATTERN_AT = COUNTS_AT + COUNTS_LEN, BITMAPS_AT = PATTERN_AT + 4, DRAWS = 32 };
 
 /* Seeds of which every draw is the same. */
 static const uint32_t STUCK_Z = 0x9068FFFF, STUCK_W = 0x464FFFFF;
@@ -22,18 +22,32 @@ static uint32_t any_seed(choices *c, uint32_t stuck)
     }
 }
 
-static bool open_with(run *r, uint32_t z, uint32_t w)
+/* Zeros, one byte four times, or any four. */
+static uint32_t any_pattern(choices *c)
 {
-    const bool opened = call_open(r->lent, z, w).number == POHELDU_SERVED;
+    switch (below(c, 4)) {
+    case 0:
+        return 0;
+    case 1:
+        return 0x01010101u * next_byte(c);
+    default:
+        return next_word(c);
+    }
+}
+
+static bool open_with(run *r, uint32_t z, uint32_t w, uint32_t pattern)
+{
+    const bool opened = call_open(r->lent, z, w, pattern).number == POHELDU_SERVED;
     if (opened)
         r->placements = 0;
+    r->clean = r->clean || opened;
     return opened;
 }
 
 void open_any(run *r)
 {
-    const uint32_t z = any_seed(&r->input, STUCK_Z), w = any_seed(&r->input, STUCK_W);
-    open_with(r, z, w);
+    const uint32_t z = any_seed(&r->input, STUCK_Z), w = any_seed(&r->input, STUCK_W), pattern = any_pattern(&r->input);
+    open_with(r, z, w, pattern);
 }
 
 static size_t bitmap_start(const run *r, uint32_t class)
@@ -103,16 +117,24 @@ static uint8_t bitmap_byte(uint32_t kind, uint32_t *state)
     }
 }
 
-/* Any bits, those beyond the last slot too, seeds that may be zero, and counts that need not agree with the bits. */
+/*
+ * Any bits, those beyond the last slot too, seeds that may be zero, and counts that need not agree with the bits. Half of these heaps hold the
+ * pattern, so that an inspection lists few slots.
+ */
 void foreign_metadata(run *r)
 {
     twin *const metadata = r->lent.metadata;
     const uint32_t kind = below(&r->input, 5), z = any_seed(&r->input, STUCK_Z), w = any_seed(&r->input, STUCK_W);
+    const uint32_t pattern = any_pattern(&r->input);
     uint32_t state = next_word(&r->input);
+    if (below(&r->input, 2) == 1)
+        open_with(r, 1, 1, pattern);
+    r->clean = false;
     for (size_t at = BITMAPS_AT; at < metadata->len; at++)
         twin_set(metadata, at, bitmap_byte(kind, &state));
     twin_set_word(metadata, 0, z);
     twin_set_word(metadata, 4, w);
+    twin_set_word(metadata, PATTERN_AT, pattern);
     set_counts(r, below(&r->input, 4));
     if (below(&r->input, 8) == 1)
         damage_count(r);
@@ -121,6 +143,7 @@ void foreign_metadata(run *r)
 /* Of the counts' bytes most others would refuse every request from then on, so these are seldom changed. */
 void damage_metadata(run *r)
 {
+    r->clean = false;
     if (below(&r->input, 4) == 1) {
         damage_count(r);
         return;
@@ -152,11 +175,11 @@ static void set_drawn(run *r, uint32_t class, uint32_t w)
 
 uint32_t set_trap(run *r)
 {
-    const uint32_t w = next_word(&r->input) | 1;
+    const uint32_t w = next_word(&r->input) | 1, pattern = any_pattern(&r->input);
     uint32_t class = below(&r->input, 4);
     while (slots(r, class) < 4 * DRAWS) /* else it were at capacity */
         class--;
-    if (open_with(r, 1, w))
+    if (open_with(r, 1, w, pattern))
         set_drawn(r, class, w);
     return class;
 }

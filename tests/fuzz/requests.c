@@ -58,7 +58,7 @@ static uint32_t remembered_slot(run *r)
     return remembered == 0 ? any_slot(r) : r->placed[below(&r->input, (uint32_t)remembered)];
 }
 
-static uint32_t any_offset(run *r)
+uint32_t any_offset(run *r)
 {
     const uint32_t region = (uint32_t)r->region, kind = below(&r->input, 16);
     switch (kind) {
@@ -93,7 +93,7 @@ static uint32_t any_count(choices *c)
 }
 
 /* Bytes from an offset to the end of its slot; past the regions' end those of the longest. */
-static uint32_t left_in_slot(const run *r, uint32_t offset)
+uint32_t left_in_slot(const run *r, uint32_t offset)
 {
     const uint32_t class = offset / (uint32_t)r->region, size = slot_size(class < CLASSES ? class : CLASSES - 1);
     return size - offset % size;

@@ -16,6 +16,7 @@ enum {
     MOST_REPLICAS = 17,
     LONGEST_BLOCK = 4097,
     LONGEST_OUTPUT = LONGEST_BLOCK + 64,
+    LONGEST_LIST = MOST_LISTED + 8,
     REMEMBERED = 32,
 };
 
@@ -23,9 +24,10 @@ typedef struct {
     choices input;
     size_t region; /* the length of a class's region */
     lent_heap lent;
-    twin *request, *source, *page, *blocks, *output;
+    twin *request, *source, *page, *blocks, *output, *list;
     uint32_t placed[REMEMBERED]; /* offsets that allocations gave, freed ones too */
     size_t placements;
+    bool clean; /* nobody but a served opening and requests wrote to clear slots */
 } run;
 
 static inline uint32_t slot_size(uint32_t class)
@@ -49,10 +51,18 @@ void damage_metadata(run *r);
 /* Opens, and sets those slots that the next draws test: chance hardly comes to a walk in the midst of a bitmap. The class of these slots. */
 uint32_t set_trap(run *r);
 
+/* Offsets (requests.c): of an object, freed or not, or any; and how many bytes its slot has from one on. */
+uint32_t any_offset(run *r);
+uint32_t left_in_slot(const run *r, uint32_t offset);
+
 /* Requests (requests.c): any; a read with plain arguments; some allocations of one class's size. */
 void serve_any(run *r);
 void read_any(run *r);
 void allocate_some(run *r, uint32_t class, uint32_t times);
+
+/* Canaries (inspections.c): others write to the heap; an inspection. */
+void scribble(run *r);
+void inspect_any(run *r);
 
 /* Votes (votes.c). */
 void vote_any(run *r);

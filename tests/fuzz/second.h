@@ -4,12 +4,14 @@
 
 #include "poheldu.h"
 
-poheldu_answer reference_open(const uint8_t *heap, size_t heap_len, uint8_t *metadata, size_t metadata_len, uint32_t z, uint32_t w);
+poheldu_answer reference_open(uint8_t *heap, size_t heap_len, uint8_t *metadata, size_t metadata_len, uint32_t z, uint32_t w, uint32_t pattern);
 poheldu_answer reference_serve(uint8_t *heap, size_t heap_len, uint8_t *metadata, size_t metadata_len,
                                const uint8_t *request, size_t request_len, const uint8_t *source, size_t source_len, const uint8_t *page,
                                size_t page_len);
 poheldu_part reference_read(const uint8_t *heap, size_t heap_len, const uint8_t *metadata, size_t metadata_len, uint32_t offset, uint32_t count,
                             const uint8_t *page, size_t page_len);
+poheldu_answer reference_inspect(const uint8_t *heap, size_t heap_len, const uint8_t *metadata, size_t metadata_len, uint32_t *list,
+                                 size_t list_len);
 poheldu_verdict reference_vote(const uint8_t *blocks, size_t blocks_len, size_t replicas, size_t block_len, uint8_t *output, size_t output_len);
 size_t reference_metadata_length(size_t heap_len);
 

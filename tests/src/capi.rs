@@ -5,12 +5,13 @@ use crate::reference::{Answer, Part, Verdict};
 
 extern "C" {
     fn poheldu_open(
-        heap: *const u8,
+        heap: *mut u8,
         heap_len: usize,
         metadata: *mut u8,
         metadata_len: usize,
         z: u32,
         w: u32,
+        pattern: u32,
     ) -> Answer;
 
     fn poheldu_serve(
@@ -36,6 +37,15 @@ extern "C" {
         page: *const u8,
         page_len: usize,
     ) -> Part;
+
+    fn poheldu_inspect(
+        heap: *const u8,
+        heap_len: usize,
+        metadata: *const u8,
+        metadata_len: usize,
+        list: *mut u32,
+        list_len: usize,
+    ) -> Answer;
 
     fn poheldu_vote(
         blocks: *const u8,
@@ -66,17 +76,17 @@ impl Empty {
     }
 
     #[inline]
-    fn unique(self, bytes: &mut [u8]) -> *mut u8 {
+    fn unique<T>(self, items: &mut [T]) -> *mut T {
         match self {
-            Empty::Null if bytes.is_empty() => std::ptr::null_mut(),
-            _ => bytes.as_mut_ptr(),
+            Empty::Null if items.is_empty() => std::ptr::null_mut(),
+            _ => items.as_mut_ptr(),
         }
     }
 }
 
 #[inline]
-pub fn open(heap: &[u8], metadata: &mut [u8], z: u32, w: u32) -> Answer {
-    open_with(Empty::Dangling, heap, metadata, z, w)
+pub fn open(heap: &mut [u8], metadata: &mut [u8], z: u32, w: u32, pattern: u32) -> Answer {
+    open_with(Empty::Dangling, heap, metadata, z, w, pattern)
 }
 
 #[inline]
@@ -96,6 +106,11 @@ pub fn read(heap: &[u8], metadata: &[u8], offset: u32, count: u32, page: &[u8]) 
 }
 
 #[inline]
+pub fn inspect(heap: &[u8], metadata: &[u8], list: &mut [u32]) -> Answer {
+    inspect_with(Empty::Dangling, heap, metadata, list)
+}
+
+#[inline]
 pub fn vote(blocks: &[u8], replicas: usize, block_len: usize, output: &mut [u8]) -> Verdict {
     vote_with(Empty::Dangling, blocks, replicas, block_len, output)
 }
@@ -108,11 +123,19 @@ pub fn metadata_length(heap_len: usize) -> usize {
 
 /// `open`, with empty slices passed as `empty` says.
 #[inline]
-pub fn open_with(empty: Empty, heap: &[u8], metadata: &mut [u8], z: u32, w: u32) -> Answer {
+pub fn open_with(
+    empty: Empty,
+    heap: &mut [u8],
+    metadata: &mut [u8],
+    z: u32,
+    w: u32,
+    pattern: u32,
+) -> Answer {
     let (heap_len, metadata_len) = (heap.len(), metadata.len());
-    let (heap, metadata) = (empty.shared(heap), empty.unique(metadata));
-    // SAFETY: each pointer is valid for its length, or the length is 0.
-    unsafe { poheldu_open(heap, heap_len, metadata, metadata_len, z, w) }
+    let (heap, metadata) = (empty.unique(heap), empty.unique(metadata));
+    // SAFETY: each pointer is valid for its length, or the length is 0; the
+    // slices do not overlap.
+    unsafe { poheldu_open(heap, heap_len, metadata, metadata_len, z, w, pattern) }
 }
 
 /// `serve`, with empty slices passed as `empty` says.
@@ -169,6 +192,23 @@ pub fn read_with(
     }
 }
 
+/// `inspect`, with empty slices passed as `empty` says.
+#[inline]
+pub fn inspect_with(empty: Empty, heap: &[u8], metadata: &[u8], list: &mut [u32]) -> Answer {
+    // SAFETY: each pointer is valid for its length, or the length is 0; the
+    // list, which counts numbers, overlaps no other slice.
+    unsafe {
+        poheldu_inspect(
+            empty.shared(heap),
+            heap.len(),
+            empty.shared(metadata),
+            metadata.len(),
+            empty.unique(list),
+            list.len(),
+        )
+    }
+}
+
 /// `vote`, with empty slices passed as `empty` says.
 #[inline]
 pub fn vote_with(
@@ -202,7 +242,7 @@ mod tests {
         let shape = Shape { region: 32_768 };
         let mut heap = vec![0; shape.heap_len()];
         let mut fresh = vec![0; shape.metadata_len()];
-        open(&heap, &mut fresh, 1, 1);
+        open(&mut heap, &mut fresh, 1, 1, 0);
         for size in (0..=16_400).chain([65_536, 1 << 31, u32::MAX]) {
             let mut metadata = fresh.clone();
             let answer = serve(&mut heap, &mut metadata, &request(0, size, 0), &[], &[]);

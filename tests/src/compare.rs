@@ -4,16 +4,19 @@
 use crate::capi::{self, Empty};
 use crate::inputs::{self, Shape};
 use crate::reference::{self, Answer, Part, Verdict};
-use std::fmt::{self, Debug, Display};
+use std::fmt::{self, Debug, Display, LowerHex};
 
-const GUARD: u8 = 0xA5;
 const MOST_BYTES_SHOWN: usize = 4_096;
-const REFUSALS: usize = 14;
+const REFUSALS: usize = 15;
 const OPERATIONS: usize = 7;
-const BUFFERS: usize = 7;
+const BUFFERS: usize = 8;
 const KINDS: usize = 9;
 const STRINGS: usize = 6;
 const CORRUPT: usize = 8;
+const INSPECTIONS: usize = 9;
+const LISTED: usize = 7;
+/// Of longer lists the slots are not told apart.
+const MOST_TOLD_APART: usize = 64;
 /// The refusal of metadata that no opening and no request left so.
 const CORRUPT_METADATA: u32 = 13;
 
@@ -53,26 +56,70 @@ pub const CORRUPT_KINDS: [&str; CORRUPT] = [
     "at a free",
 ];
 
-/// Two equal buffers, one for each implementation. Guard bytes around them
-/// show a write outside; without guards, valgrind sees a read outside too.
-pub struct Twin {
-    reference: Vec<u8>,
-    library: Vec<u8>,
+/// The kinds of inspections that are told apart, in the order they are counted in.
+pub const INSPECTION_KINDS: [&str; INSPECTIONS] = [
+    "that list nothing",
+    "that list nothing, with an empty list",
+    "with a longer list than wanted",
+    "with a list just long enough",
+    "refused with 2",
+    "refused with 3",
+    "refused with 13",
+    "refused with 14, one number too few",
+    "refused with 14, several too few",
+];
+
+/// The kinds of listed slots that are told apart, in the order they are counted
+/// in. A slot may be of several.
+pub const LISTED_KINDS: [&str; LISTED] = [
+    "first of a class",
+    "last of a class",
+    "the only one of a class",
+    "of a class with fewer bits than a byte has",
+    "for their first byte alone",
+    "for their last byte alone",
+    "for the pattern out of step",
+];
+
+/// What buffers are made of: bytes, or the numbers of a list.
+pub trait Item: Copy + PartialEq + LowerHex {
+    const GUARD: Self;
+}
+
+impl Item for u8 {
+    const GUARD: u8 = 0xA5;
+}
+
+impl Item for u32 {
+    const GUARD: u32 = 0xA5A5_A5A5;
+}
+
+/// Two equal buffers, one for each implementation. Guards around them show a
+/// write outside; without guards, valgrind sees a read outside too.
+pub struct Twin<T = u8> {
+    reference: Vec<T>,
+    library: Vec<T>,
     guard: usize,
     shown: usize,
 }
 
 impl Twin {
-    pub fn new(bytes: &[u8], guard: usize) -> Twin {
-        let mut whole = Vec::with_capacity(bytes.len() + 2 * guard);
-        whole.resize(guard, GUARD);
-        whole.extend_from_slice(bytes);
-        whole.resize(bytes.len() + 2 * guard, GUARD);
+    pub fn bytes(&self) -> &[u8] {
+        self.items()
+    }
+}
+
+impl<T: Item> Twin<T> {
+    pub fn new(items: &[T], guard: usize) -> Twin<T> {
+        let mut whole = Vec::with_capacity(items.len() + 2 * guard);
+        whole.resize(guard, T::GUARD);
+        whole.extend_from_slice(items);
+        whole.resize(items.len() + 2 * guard, T::GUARD);
         Twin {
             library: whole.as_slice().into(),
             reference: whole,
             guard,
-            shown: bytes.len(),
+            shown: items.len(),
         }
     }
 
@@ -81,23 +128,30 @@ impl Twin {
         self.reference.len() - 2 * self.guard
     }
 
-    /// Shows the calls only the first `len` bytes, from now on.
+    /// Shows the calls only the first `len` items, from now on.
     pub fn show(&mut self, len: usize) {
         self.shown = len.min(self.full_len());
     }
 
-    pub fn bytes(&self) -> &[u8] {
+    pub fn items(&self) -> &[T] {
         &self.reference[self.guard..self.guard + self.shown]
     }
 
     /// Gives both buffers the same new content.
-    pub fn replace(&mut self, bytes: &[u8]) {
+    pub fn replace(&mut self, items: &[T]) {
         let (reference, library) = self.parts();
-        reference.copy_from_slice(bytes);
-        library.copy_from_slice(bytes);
+        reference.copy_from_slice(items);
+        library.copy_from_slice(items);
     }
 
-    fn parts(&mut self) -> (&mut [u8], &mut [u8]) {
+    /// Gives a part of both the same new content.
+    pub fn write(&mut self, at: usize, items: &[T]) {
+        let (reference, library) = self.parts();
+        reference[at..at + items.len()].copy_from_slice(items);
+        library[at..at + items.len()].copy_from_slice(items);
+    }
+
+    fn parts(&mut self) -> (&mut [T], &mut [T]) {
         let range = self.guard..self.guard + self.shown;
         (&mut self.reference[range.clone()], &mut self.library[range])
     }
@@ -110,9 +164,7 @@ impl Twin {
         let at = pairs.position(|(a, b)| a != b)?;
         let (a, b) = (self.reference[at], self.library[at]);
         let place = at as i64 - self.guard as i64;
-        Some(format!(
-            "byte {place}: reference {a:#04x}, library {b:#04x}"
-        ))
+        Some(format!("at {place}: reference {a:#04x}, library {b:#04x}"))
     }
 }
 
@@ -154,6 +206,7 @@ enum Name {
         heap_len: usize,
         z: u32,
         w: u32,
+        pattern: u32,
     },
     Serve {
         heap_len: usize,
@@ -162,6 +215,10 @@ enum Name {
         heap_len: usize,
         offset: u32,
         count: u32,
+    },
+    Inspect {
+        heap_len: usize,
+        list_len: usize,
     },
     Vote {
         replicas: usize,
@@ -187,8 +244,14 @@ impl Display for Hex<'_> {
 impl Display for Name {
     fn fmt(&self, f: &mut fmt::Formatter) -> fmt::Result {
         match *self {
-            Name::Open { heap_len, z, w } => {
-                write!(f, "open z={z:#x} w={w:#x}, heap of {heap_len} bytes")
+            Name::Open {
+                heap_len,
+                z,
+                w,
+                pattern,
+            } => {
+                write!(f, "open z={z:#x} w={w:#x} pattern={pattern:#x}, ")?;
+                write!(f, "heap of {heap_len} bytes")
             }
             Name::Serve { heap_len } => write!(f, "serve, heap of {heap_len} bytes"),
             Name::Read {
@@ -197,6 +260,10 @@ impl Display for Name {
                 count,
             } => {
                 write!(f, "read offset={offset} count={count}, ")?;
+                write!(f, "heap of {heap_len} bytes")
+            }
+            Name::Inspect { heap_len, list_len } => {
+                write!(f, "inspect, list of {list_len} numbers, ")?;
                 write!(f, "heap of {heap_len} bytes")
             }
             Name::Vote {
@@ -291,6 +358,47 @@ fn string_kind(source: &[u8], space: usize) -> usize {
     }
 }
 
+/// Which of `INSPECTION_KINDS` an inspection was, of a heap with so many slots
+/// to be listed.
+fn inspection_kind(answer: Answer, list_len: usize, hits: usize) -> usize {
+    match answer.number {
+        0 if hits == 0 => usize::from(list_len == 0),
+        0 => 2 + usize::from(list_len == hits),
+        2 => 4,
+        3 => 5,
+        CORRUPT_METADATA => 6,
+        _ => 7 + usize::from(list_len + 1 < hits),
+    }
+}
+
+/// How many slots a heap has to be listed: none where its lengths or counts are
+/// refused.
+pub fn hits(heap: &[u8], metadata: &[u8]) -> usize {
+    let region = heap.len() / inputs::CLASSES;
+    let mut list = vec![0; Shape { region }.all_slots()];
+    reference::inspect(heap, metadata, &mut list).value as usize
+}
+
+/// Which of `LISTED_KINDS` a listed slot is.
+fn listed_kinds(shape: Shape, heap: &[u8], pattern: [u8; 4], offset: usize) -> [bool; LISTED] {
+    let class = offset / shape.region;
+    let (slots, size) = (shape.slots(class), inputs::slot_size(class));
+    let index = offset % shape.region / size;
+    let bytes = &heap[offset..offset + size];
+    let stray = |at: &usize| bytes[*at] != pattern[at % 4];
+    let (first, last) = ((0..size).find(stray), (0..size).rev().find(stray));
+    let holds = |step: usize| (0..size).all(|at| bytes[at] == pattern[(at + step) % 4]);
+    [
+        index == 0,
+        index == slots - 1,
+        slots == 1,
+        slots < 8,
+        last == Some(0),
+        first == Some(size - 1),
+        (1..4).any(holds),
+    ]
+}
+
 /// Makes the calls, counts them, and stops the program at a difference.
 pub struct Tester {
     pub seed: u64,
@@ -311,12 +419,21 @@ pub struct Tester {
     pub strings: [u64; STRINGS],
     /// Requests refused with 13, of each kind.
     pub corrupt: [u64; CORRUPT],
+    /// Inspections, of each kind.
+    pub inspections: [u64; INSPECTIONS],
+    /// Slots listed in short lists, of each kind.
+    pub listed: [u64; LISTED],
+    /// Inspections in runs from an opening in which nobody else wrote.
+    pub clean: u64,
+    /// Inspections that list something, made again with other bytes in live slots
+    /// and outside slots.
+    pub changed: u64,
     /// Allocations that took a slot that was not drawn.
     pub walks: u64,
     /// Walks that went past the last slot.
     pub wraps: u64,
     /// Empty buffers passed as NULL: heap, metadata, request, source, page,
-    /// blocks, output.
+    /// blocks, output, list.
     pub nulls: [u64; BUFFERS],
     before: Vec<u8>,
 }
@@ -334,6 +451,10 @@ impl Tester {
             edge_sizes: [0; 3],
             strings: [0; STRINGS],
             corrupt: [0; CORRUPT],
+            inspections: [0; INSPECTIONS],
+            listed: [0; LISTED],
+            clean: 0,
+            changed: 0,
             walks: 0,
             wraps: 0,
             nulls: [0; BUFFERS],
@@ -341,16 +462,28 @@ impl Tester {
         }
     }
 
-    pub fn open(&mut self, heap: &mut Twin, metadata: &mut Twin, z: u32, w: u32) -> Answer {
+    pub fn open(
+        &mut self,
+        heap: &mut Twin,
+        metadata: &mut Twin,
+        z: u32,
+        w: u32,
+        pattern: u32,
+    ) -> Answer {
         let empty = self.next_call(metadata.bytes());
-        self.count_nulls(empty, &[(0, heap), (1, metadata)]);
+        self.count_nulls(empty, &[(0, heap.shown), (1, metadata.shown)]);
         let (heap_a, heap_b) = heap.parts();
         let (metadata_a, metadata_b) = metadata.parts();
-        let expected = reference::open(heap_a, metadata_a, z, w);
-        let answer = capi::open_with(empty, heap_b, metadata_b, z, w);
-        let heap_len = heap.shown;
+        let expected = reference::open(heap_a, metadata_a, z, w, pattern);
+        let answer = capi::open_with(empty, heap_b, metadata_b, z, w, pattern);
+        let name = Name::Open {
+            heap_len: heap.shown,
+            z,
+            w,
+            pattern,
+        };
         let call = Call {
-            name: Name::Open { heap_len, z, w },
+            name,
             buffers: &[("metadata before", &self.before)],
         };
         self.check(&call, expected, answer);
@@ -361,11 +494,9 @@ impl Tester {
 
     pub fn serve(&mut self, heap: &mut Twin, metadata: &mut Twin, lent: &mut Lent) -> Answer {
         let empty = self.next_call(metadata.bytes());
-        self.count_nulls(empty, &[(0, heap), (1, metadata)]);
-        self.count_nulls(
-            empty,
-            &[(2, &lent.request), (3, &lent.source), (4, &lent.page)],
-        );
+        self.count_nulls(empty, &[(0, heap.shown), (1, metadata.shown)]);
+        let [request, source, page] = lent.named().map(|(_, twin)| twin.shown);
+        self.count_nulls(empty, &[(2, request), (3, source), (4, page)]);
         let (expected, answer) = serve_both(empty, heap, metadata, lent);
         let heap_len = heap.shown;
         let call = Call {
@@ -401,7 +532,10 @@ impl Tester {
         page: &mut Twin,
     ) -> Part {
         let empty = self.next_call(metadata.bytes());
-        self.count_nulls(empty, &[(0, heap), (1, metadata), (4, page)]);
+        self.count_nulls(
+            empty,
+            &[(0, heap.shown), (1, metadata.shown), (4, page.shown)],
+        );
         let (heap_a, heap_b) = heap.parts();
         let (metadata_a, metadata_b) = metadata.parts();
         let (page_a, page_b) = page.parts();
@@ -425,6 +559,32 @@ impl Tester {
         part
     }
 
+    pub fn inspect(
+        &mut self,
+        heap: &mut Twin,
+        metadata: &mut Twin,
+        list: &mut Twin<u32>,
+    ) -> Answer {
+        let empty = self.next_call(metadata.bytes());
+        let (heap_len, list_len) = (heap.shown, list.shown);
+        self.count_nulls(empty, &[(0, heap_len), (1, metadata.shown), (7, list_len)]);
+        let (heap_a, heap_b) = heap.parts();
+        let (metadata_a, metadata_b) = metadata.parts();
+        let (list_a, list_b) = list.parts();
+        let expected = reference::inspect(heap_a, metadata_a, list_a);
+        let answer = capi::inspect_with(empty, heap_b, metadata_b, list_b);
+        let call = Call {
+            name: Name::Inspect { heap_len, list_len },
+            buffers: &[("metadata", &self.before), ("heap", heap.bytes())],
+        };
+        self.check(&call, expected, answer);
+        self.check_bytes(&call, &[("heap", heap), ("metadata", metadata)]);
+        self.check_twin(&call, "list", list);
+        self.counts[answer.number as usize] += 1;
+        self.count_inspection(heap.bytes(), metadata.bytes(), list.items(), answer);
+        answer
+    }
+
     pub fn vote(
         &mut self,
         blocks: &mut Twin,
@@ -433,7 +593,7 @@ impl Tester {
         output: &mut Twin,
     ) -> Verdict {
         let empty = self.next_call(&[]);
-        self.count_nulls(empty, &[(5, blocks), (6, output)]);
+        self.count_nulls(empty, &[(5, blocks.shown), (6, output.shown)]);
         let (blocks_a, blocks_b) = blocks.parts();
         let (output_a, output_b) = output.parts();
         let expected = reference::vote(blocks_a, replicas, block_len, output_a);
@@ -477,10 +637,11 @@ impl Tester {
         }
     }
 
-    fn count_nulls(&mut self, empty: Empty, buffers: &[(usize, &Twin)]) {
-        for (at, twin) in buffers {
-            if empty == Empty::Null && twin.shown == 0 {
-                self.nulls[*at] += 1;
+    /// Counts the buffers that are passed as NULL, of those with these lengths.
+    fn count_nulls(&mut self, empty: Empty, lengths: &[(usize, usize)]) {
+        for &(at, len) in lengths {
+            if empty == Empty::Null && len == 0 {
+                self.nulls[at] += 1;
             }
         }
     }
@@ -521,6 +682,25 @@ impl Tester {
         let kinds = corrupt_kinds(Shape { region }, metadata.bytes(), lent.request.bytes());
         for (count, kind) in self.corrupt.iter_mut().zip(kinds) {
             *count += u64::from(kind);
+        }
+    }
+
+    /// An inspection changes no byte that it reads, so that these still show
+    /// what it was.
+    fn count_inspection(&mut self, heap: &[u8], metadata: &[u8], list: &[u32], answer: Answer) {
+        let hits = hits(heap, metadata);
+        self.inspections[inspection_kind(answer, list.len(), hits)] += 1;
+        let value = answer.value as usize;
+        if value > MOST_TOLD_APART {
+            return;
+        }
+        let region = heap.len() / inputs::CLASSES;
+        for &offset in &list[..value] {
+            let pattern = inputs::pattern_of(metadata);
+            let kinds = listed_kinds(Shape { region }, heap, pattern, offset as usize);
+            for (count, kind) in self.listed.iter_mut().zip(kinds) {
+                *count += u64::from(kind);
+            }
         }
     }
 
@@ -574,9 +754,13 @@ impl Tester {
 
     fn check_bytes(&self, call: &Call, twins: &[(&str, &Twin)]) {
         for (name, twin) in twins {
-            if let Some(difference) = twin.first_difference() {
-                self.fail(call, &format!("{name}: {difference}"));
-            }
+            self.check_twin(call, name, twin);
+        }
+    }
+
+    fn check_twin<T: Item>(&self, call: &Call, name: &str, twin: &Twin<T>) {
+        if let Some(difference) = twin.first_difference() {
+            self.fail(call, &format!("{name}: {difference}"));
         }
     }
 

@@ -13,11 +13,12 @@ unsafe fn shared<'a>(bytes: *const u8, len: usize) -> &'a [u8] {
 }
 
 /// # Safety
-/// `bytes` is valid for `len` bytes that nobody else uses, or `len` is 0.
-unsafe fn unique<'a>(bytes: *mut u8, len: usize) -> &'a mut [u8] {
+/// `items` is valid for `len` bytes or numbers that nobody else uses, or `len`
+/// is 0.
+unsafe fn unique<'a, T>(items: *mut T, len: usize) -> &'a mut [T] {
     match len {
         0 => &mut [],
-        _ => std::slice::from_raw_parts_mut(bytes, len),
+        _ => std::slice::from_raw_parts_mut(items, len),
     }
 }
 
@@ -25,14 +26,16 @@ unsafe fn unique<'a>(bytes: *mut u8, len: usize) -> &'a mut [u8] {
 /// As include/poheldu.h asks of `poheldu_open`.
 #[no_mangle]
 pub unsafe extern "C" fn reference_open(
-    heap: *const u8,
+    heap: *mut u8,
     heap_len: usize,
     metadata: *mut u8,
     metadata_len: usize,
     z: u32,
     w: u32,
+    pattern: u32,
 ) -> Answer {
-    reference::open(shared(heap, heap_len), unique(metadata, metadata_len), z, w)
+    let (heap, metadata) = (unique(heap, heap_len), unique(metadata, metadata_len));
+    reference::open(heap, metadata, z, w, pattern)
 }
 
 /// # Safety
@@ -79,6 +82,21 @@ pub unsafe extern "C" fn reference_read(
         count,
         shared(page, page_len),
     )
+}
+
+/// # Safety
+/// As include/poheldu.h asks of `poheldu_inspect`.
+#[no_mangle]
+pub unsafe extern "C" fn reference_inspect(
+    heap: *const u8,
+    heap_len: usize,
+    metadata: *const u8,
+    metadata_len: usize,
+    list: *mut u32,
+    list_len: usize,
+) -> Answer {
+    let (heap, metadata) = (shared(heap, heap_len), shared(metadata, metadata_len));
+    reference::inspect(heap, metadata, unique(list, list_len))
 }
 
 /// # Safety

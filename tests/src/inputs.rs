@@ -3,9 +3,11 @@
 use crate::random::Random;
 
 pub const CLASSES: usize = 12;
-/// Where the live counts start in the metadata, and the bitmaps after them.
+/// Where the live counts start in the metadata, the pattern after them, and the
+/// bitmaps after that.
 const COUNTS: usize = 8;
-pub const BITMAPS: usize = COUNTS + 4 * CLASSES;
+const PATTERN: usize = COUNTS + 4 * CLASSES;
+pub const BITMAPS: usize = PATTERN + 4;
 /// Seeds whose half of the generator never moves: every draw is the same.
 pub const STUCK_Z: u32 = 0x9068_FFFF;
 pub const STUCK_W: u32 = 0x464F_FFFF;
@@ -48,6 +50,11 @@ impl Shape {
 
     pub fn slots(self, class: usize) -> usize {
         self.region / slot_size(class)
+    }
+
+    /// How many slots the heap has: no inspection lists more.
+    pub fn all_slots(self) -> usize {
+        (0..CLASSES).map(|class| self.slots(class)).sum()
     }
 
     /// How many objects the class takes, and no count of it is above.
@@ -240,6 +247,101 @@ pub fn set_seeds(metadata: &mut [u8], z: u32, w: u32) {
     metadata[4..8].copy_from_slice(&w.to_le_bytes());
 }
 
+// --- The pattern, and others who write to the heap ---
+
+/// A pattern: zeros, one byte four times, or most often four bytes.
+pub fn pattern(rng: &mut Random) -> u32 {
+    match rng.below(8) {
+        0 => 0,
+        1 => u32::from_le_bytes([rng.byte(); 4]),
+        2 => rng.pick(&[1, 0xFF00_0000, 0x00FF_00FF, u32::MAX]),
+        _ => rng.word(),
+    }
+}
+
+/// The pattern's bytes, in the order in which slots hold them.
+pub fn pattern_of(metadata: &[u8]) -> [u8; 4] {
+    [0, 1, 2, 3].map(|byte| metadata[PATTERN + byte])
+}
+
+pub fn set_pattern(metadata: &mut [u8], pattern: u32) {
+    metadata[PATTERN..BITMAPS].copy_from_slice(&pattern.to_le_bytes());
+}
+
+/// A heap that holds the pattern everywhere, in its slots and outside them.
+pub fn painted(shape: Shape, pattern: [u8; 4]) -> Vec<u8> {
+    pattern.repeat(shape.heap_len() / pattern.len())
+}
+
+/// What others write to the heap, and where: past an object, after its free, at
+/// the ends of a slot, over all of it, or anywhere.
+pub fn scribble(
+    rng: &mut Random,
+    shape: Shape,
+    pattern: [u8; 4],
+    allocated: &[u32],
+) -> (usize, Vec<u8>) {
+    let slot = any_slot(rng, shape, allocated);
+    let size = slot_size(slot / shape.region);
+    let (at, len) = match rng.below(10) {
+        0..=2 => (slot + size, rng.between(1, 16)),
+        3 => (slot + size - 1, 1),
+        4 => (slot, 1),
+        5 => (slot, size),
+        6 | 7 => (slot + rng.below(size), rng.between(1, 16)),
+        _ => (rng.below(shape.heap_len()), rng.between(1, 40)),
+    };
+    let at = at.min(shape.heap_len() - 1);
+    let bytes = stray_bytes(rng, pattern, at, len.min(shape.heap_len() - at));
+    (at, bytes)
+}
+
+/// The start of a slot: of an object allocated before, or of any.
+fn any_slot(rng: &mut Random, shape: Shape, allocated: &[u32]) -> usize {
+    if !allocated.is_empty() && !rng.once_in(3) {
+        return rng.pick(allocated) as usize;
+    }
+    let class = rng.below(CLASSES);
+    class * shape.region + rng.below(shape.slots(class).max(1)) * slot_size(class)
+}
+
+/// Any bytes, or the pattern's: as the slots hold them, or out of step.
+fn stray_bytes(rng: &mut Random, pattern: [u8; 4], at: usize, len: usize) -> Vec<u8> {
+    let step = match rng.below(8) {
+        0 => 0,
+        1 | 2 => rng.between(1, 3),
+        _ => return rng.bytes(len),
+    };
+    (at..at + len).map(|at| pattern[(at + step) % 4]).collect()
+}
+
+/// Changes every byte that no inspection looks at: those of live slots, and
+/// those outside all slots.
+pub fn change_unseen(shape: Shape, metadata: &[u8], heap: &mut [u8]) {
+    for (class, region) in heap.chunks_exact_mut(shape.region).enumerate() {
+        let bitmap = &metadata[shape.bitmap_start(class)..];
+        for (index, bytes) in region.chunks_mut(slot_size(class)).enumerate() {
+            let is_slot = index < shape.slots(class);
+            if !is_slot || bitmap[index / 8] >> (index % 8) & 1 == 1 {
+                bytes.iter_mut().for_each(|byte| *byte = !*byte);
+            }
+        }
+    }
+}
+
+/// The length of a list where so many slots are to be listed: none, one too few
+/// or fewer, just enough, or more.
+pub fn list_length(rng: &mut Random, hits: usize) -> usize {
+    match rng.below(8) {
+        0 => 0,
+        1 | 2 => hits.saturating_sub(1),
+        3 => rng.below(hits + 1),
+        4 | 5 => hits,
+        6 => hits + 1,
+        _ => hits + rng.below(40),
+    }
+}
+
 // --- Live counts ---
 
 pub fn count_of(metadata: &[u8], class: usize) -> u32 {
@@ -342,6 +444,9 @@ pub fn foreign_metadata(rng: &mut Random, shape: Shape) -> Vec<u8> {
         let (z, w) = (seed_word(rng, STUCK_Z), seed_word(rng, STUCK_W));
         set_seeds(&mut bytes, z, w);
     }
+    if !rng.once_in(8) {
+        set_pattern(&mut bytes, pattern(rng));
+    }
     foreign_counts(rng, shape, &mut bytes);
     bytes
 }
@@ -420,9 +525,9 @@ pub fn damage(rng: &mut Random, shape: Shape, bytes: &mut [u8]) {
         return set_count(bytes, class, count);
     }
     for _ in 0..rng.between(1, 4) {
-        let at = match rng.below(COUNTS + bytes.len() - BITMAPS) {
+        let at = match rng.below(COUNTS + bytes.len() - PATTERN) {
             at @ 0..COUNTS => at,
-            at => at - COUNTS + BITMAPS,
+            at => at - COUNTS + PATTERN,
         };
         bytes[at] = rng.byte();
     }
@@ -454,7 +559,7 @@ pub fn metadata_length(rng: &mut Random, heap_len: usize) -> usize {
         2 => right - 1,
         3 => Shape::random(rng).metadata_len(),
         4 => rng.below(250),
-        5 => rng.pick(&[1, 7, 8, 9, BITMAPS - 1, BITMAPS, BITMAPS + 1]),
+        5 => rng.pick(&[1, 7, 8, 9, PATTERN, BITMAPS - 1, BITMAPS, BITMAPS + 1]),
         _ => right,
     }
 }

@@ -1,11 +1,14 @@
 //! Second implementation of the allocator, written from the specification alone.
 //!
 //! The heap is twelve regions of equal length, one for each size class. The
-//! metadata holds the generator's state (z, w), a live count for each class and
-//! then a bitmap for each class. Opening and requests keep each count equal to
-//! its bitmap's set bits; metadata that others made are believed in their
-//! counts, unless one is above half of its class's slots or an operation finds
-//! that it cannot be right.
+//! metadata holds the generator's state (z, w), a live count for each class, the
+//! pattern of the canaries and then a bitmap for each class. Opening and requests
+//! keep each count equal to its bitmap's set bits; metadata that others made are
+//! believed in their counts, unless one is above half of its class's slots or an
+//! operation finds that it cannot be right.
+//!
+//! Opening fills every slot with the pattern, and a free its slot: an inspection
+//! finds the clear slots that others have written to since.
 
 use std::ops::Range;
 
@@ -16,15 +19,18 @@ const LARGEST_SIZE: u32 = 16_384;
 /// A region is 2^10 to 2^20 bytes long.
 const REGION_SHIFTS: Range<u32> = 10..21;
 const LAYOUTS: usize = 11;
-/// z, w and the live counts, four bytes each, stand before the bitmaps.
+/// z, w, the live counts and the pattern, four bytes each, stand before the
+/// bitmaps.
 const COUNTS_START: usize = 8;
-const FIELDS_LENGTH: usize = COUNTS_START + 4 * CLASSES;
+const PATTERN_START: usize = COUNTS_START + 4 * CLASSES;
+const FIELDS_LENGTH: usize = PATTERN_START + 4;
 const REQUEST_LENGTH: usize = 16;
 const MOST_DRAWS: usize = 32;
 const MOST_REPLICAS: usize = 16;
 const LONGEST_BLOCK: usize = 4_096;
 
-/// What `open` and `serve` answer: refusal number (0: served) and value.
+/// What `open`, `serve` and `inspect` answer: refusal number (0: served) and
+/// value.
 #[derive(Clone, Copy, Debug, PartialEq, Eq)]
 #[repr(C)]
 pub struct Answer {
@@ -89,6 +95,7 @@ enum Refusal {
     InvalidVote = 11,
     NoAgreement = 12,
     CorruptMetadata = 13,
+    ListTooShort = 14,
 }
 
 impl From<Result<u32, Refusal>> for Answer {
@@ -103,13 +110,13 @@ impl From<Result<u32, Refusal>> for Answer {
     }
 }
 
-/// Writes a fresh state into the metadata; the heap is not touched.
-pub fn open(heap: &[u8], metadata: &mut [u8], z: u32, w: u32) -> Answer {
-    try_open(heap, metadata, z, w).into()
+/// Writes a fresh state into the metadata, and the pattern into every slot.
+pub fn open(heap: &mut [u8], metadata: &mut [u8], z: u32, w: u32, pattern: u32) -> Answer {
+    try_open(heap, metadata, z, w, pattern).into()
 }
 
 /// Serves one request. Copies take from the source; a read where nothing is
-/// live shows the page.
+/// live shows the page; a free writes the pattern into its slot.
 pub fn serve(
     heap: &mut [u8],
     metadata: &mut [u8],
@@ -125,6 +132,11 @@ pub fn read(heap: &[u8], metadata: &[u8], offset: u32, count: u32, page: &[u8]) 
     Layout::of_buffers(heap.len(), metadata)
         .and_then(|layout| show(layout, metadata, offset, count, page))
         .unwrap_or_else(Part::refused)
+}
+
+/// Lists where the clear slots start that do not hold the pattern throughout.
+pub fn inspect(heap: &[u8], metadata: &[u8], list: &mut [u32]) -> Answer {
+    try_inspect(heap, metadata, list).into()
 }
 
 /// Finds the content that most replicas share and copies it to the output.
@@ -150,13 +162,23 @@ pub fn metadata_length(heap_len: usize) -> usize {
     Layout::of_heap(heap_len).map_or(0, Layout::metadata_length)
 }
 
-fn try_open(heap: &[u8], metadata: &mut [u8], z: u32, w: u32) -> Result<u32, Refusal> {
-    Layout::of_lengths(heap.len(), metadata.len())?;
+fn try_open(
+    heap: &mut [u8],
+    metadata: &mut [u8],
+    z: u32,
+    w: u32,
+    pattern: u32,
+) -> Result<u32, Refusal> {
+    let layout = Layout::of_lengths(heap.len(), metadata.len())?;
     if z == 0 || w == 0 {
         return Err(Refusal::ZeroSeed);
     }
     metadata.fill(0);
     Generator { z, w }.store(metadata);
+    set_word(metadata, PATTERN_START, pattern);
+    for class in 0..CLASSES {
+        paint(&mut heap[layout.all_slots(class)], pattern_of(metadata));
+    }
     Ok(0)
 }
 
@@ -170,7 +192,7 @@ fn try_serve(
     let layout = Layout::of_buffers(heap.len(), metadata)?;
     match Request::read(request)? {
         Request::Allocate { size } => allocate(layout, metadata, size),
-        Request::Free { offset } => free(layout, metadata, offset),
+        Request::Free { offset } => free(layout, heap, metadata, offset),
         Request::Remaining { offset } => remaining(layout, metadata, offset),
         Request::CopyBytes { offset } => {
             let target = lend(layout, heap, metadata, offset)?;
@@ -347,6 +369,12 @@ impl Layout {
         self.starts()[class]..self.starts()[class + 1]
     }
 
+    /// Where the heap has the class's slots, one after another.
+    fn all_slots(self, class: usize) -> Range<usize> {
+        let start = class << self.shift;
+        start..start + (self.slots(class) << slot_shift(class))
+    }
+
     fn slot_start(self, slot: Slot) -> u32 {
         ((slot.class << self.shift) + (slot.index << slot_shift(slot.class))) as u32
     }
@@ -393,9 +421,14 @@ fn set_live_count(metadata: &mut [u8], class: usize, count: u32) {
     set_word(metadata, COUNTS_START + 4 * class, count);
 }
 
+/// The pattern's bytes, in the order in which slots hold them.
+fn pattern_of(metadata: &[u8]) -> [u8; 4] {
+    word(metadata, PATTERN_START).to_le_bytes()
+}
+
 /// Whether a class's live count is above its capacity.
 fn any_above(metadata: &[u8], capacities: &[u32; CLASSES]) -> bool {
-    let (counts, _) = metadata[COUNTS_START..FIELDS_LENGTH].as_chunks();
+    let (counts, _) = metadata[COUNTS_START..PATTERN_START].as_chunks();
     let mut pairs = counts.iter().zip(capacities);
     pairs.any(|(&count, &capacity)| u32::from_le_bytes(count) > capacity)
 }
@@ -452,6 +485,48 @@ fn choose_slot(generator: &mut Generator, bitmap: &[u8], slots: usize) -> Option
         .find(|&index| !is_live(bitmap, index))
 }
 
+// --- Canaries ---
+
+/// Fills slots that lie side by side. The pattern begins anew at each of them,
+/// since it divides the length of every slot.
+fn paint(slots: &mut [u8], pattern: [u8; 4]) {
+    let (fours, _) = slots.as_chunks_mut();
+    fours.fill(pattern);
+}
+
+/// Whether a slot holds the pattern throughout. Mostly it does: a loop without
+/// an exit takes less time then.
+fn is_painted(slot: &[u8], pattern: [u8; 4]) -> bool {
+    let (fours, _) = slot.as_chunks();
+    let pattern = u32::from_le_bytes(pattern);
+    let strays = |bits, &four: &[u8; 4]| bits | (u32::from_le_bytes(four) ^ pattern);
+    fours.iter().fold(0, strays) == 0
+}
+
+fn try_inspect(heap: &[u8], metadata: &[u8], list: &mut [u32]) -> Result<u32, Refusal> {
+    let layout = Layout::of_buffers(heap.len(), metadata)?;
+    let hit = hit_slots(layout, heap, metadata);
+    let front = list.get_mut(..hit.len()).ok_or(Refusal::ListTooShort)?;
+    front.copy_from_slice(&hit);
+    Ok(hit.len() as u32)
+}
+
+/// The offsets of all clear slots that somebody has written to, rising.
+fn hit_slots(layout: Layout, heap: &[u8], metadata: &[u8]) -> Vec<u32> {
+    let pattern = pattern_of(metadata);
+    let mut hit = Vec::new();
+    for class in 0..CLASSES {
+        let bitmap = &metadata[layout.bitmap(class)];
+        let slots = heap[layout.all_slots(class)].chunks_exact(1 << slot_shift(class));
+        for (index, slot) in slots.enumerate() {
+            if !is_live(bitmap, index) && !is_painted(slot, pattern) {
+                hit.push(layout.slot_start(Slot { class, index }));
+            }
+        }
+    }
+    hit
+}
+
 // --- The operations ---
 
 fn allocate(layout: Layout, metadata: &mut [u8], size: u32) -> Result<u32, Refusal> {
@@ -476,7 +551,7 @@ fn allocate(layout: Layout, metadata: &mut [u8], size: u32) -> Result<u32, Refus
     Ok(layout.slot_start(Slot { class, index }))
 }
 
-fn free(layout: Layout, metadata: &mut [u8], offset: u32) -> Result<u32, Refusal> {
+fn free(layout: Layout, heap: &mut [u8], metadata: &mut [u8], offset: u32) -> Result<u32, Refusal> {
     let slot = layout.slot_at(offset)?.ok_or(Refusal::NotASlotStart)?;
     if layout.slot_start(slot) != offset {
         return Err(Refusal::NotASlotStart);
@@ -489,7 +564,10 @@ fn free(layout: Layout, metadata: &mut [u8], offset: u32) -> Result<u32, Refusal
     let left = live.checked_sub(1).ok_or(Refusal::CorruptMetadata)?;
     bitmap[slot.index / 8] &= !(1 << (slot.index % 8));
     set_live_count(metadata, slot.class, left);
-    Ok(1 << slot_shift(slot.class))
+    let size = 1 << slot_shift(slot.class);
+    let start = offset as usize;
+    paint(&mut heap[start..start + size], pattern_of(metadata));
+    Ok(size as u32)
 }
 
 /// Bytes from the offset to the end of the live object there; 0 if there is none.
@@ -628,9 +706,15 @@ mod tests {
     use crate::inputs::STUCK_W;
 
     const HEAP: usize = 12 * 4_096;
-    const METADATA: usize = 186;
-    const BITMAPS: usize = 56;
+    const METADATA: usize = 190;
+    const BITMAPS: usize = 60;
+    /// Benches open with this one, so that the bytes around what a call writes
+    /// are known.
+    const PATTERN: u32 = 0xEEEE_EEEE;
+    /// A pattern whose bytes, as slots hold them, are all different.
+    const FOUR: [u8; 4] = [0x11, 0x22, 0x33, 0x44];
 
+    #[derive(Clone)]
     struct Bench {
         heap: Vec<u8>,
         metadata: Vec<u8>,
@@ -638,10 +722,23 @@ mod tests {
 
     impl Bench {
         fn open(z: u32, w: u32) -> Bench {
-            let heap = vec![0xEE; HEAP];
-            let mut metadata = vec![0xEE; METADATA];
-            assert_eq!(open(&heap, &mut metadata, z, w), served(0));
-            Bench { heap, metadata }
+            let (heap, metadata) = (vec![0xEE; HEAP], vec![0xEE; METADATA]);
+            let mut bench = Bench { heap, metadata };
+            assert_eq!(bench.reopen(z, w, PATTERN), served(0));
+            bench
+        }
+
+        fn reopen(&mut self, z: u32, w: u32, pattern: u32) -> Answer {
+            open(&mut self.heap, &mut self.metadata, z, w, pattern)
+        }
+
+        /// What an inspection lists; it has room for all slots.
+        fn inspect(&self) -> Vec<u32> {
+            let mut list = vec![0; 1_023];
+            let answer = inspect(&self.heap, &self.metadata, &mut list);
+            assert_eq!(answer.number, 0);
+            list.truncate(answer.value as usize);
+            list
         }
 
         /// A bench with the object of the first allocation, at 640.
@@ -749,9 +846,10 @@ mod tests {
     fn metadata_after_the_first_allocation() {
         let bench = Bench::with_object();
         let mut expected = vec![0; METADATA];
-        for (at, byte) in [(0, 0x69), (1, 0x90), (4, 0x50), (5, 0x46), (8, 1), (66, 1)] {
+        for (at, byte) in [(0, 0x69), (1, 0x90), (4, 0x50), (5, 0x46), (8, 1), (70, 1)] {
             expected[at] = byte;
         }
+        expected[56..60].fill(0xEE);
         assert_eq!(bench.metadata, expected);
     }
 
@@ -951,9 +1049,9 @@ mod tests {
 
     #[test]
     fn metadata_lengths_of_the_document() {
-        assert_eq!(metadata_length(12 * 1_024), 90);
-        assert_eq!(metadata_length(12 * 4_096), 186);
-        assert_eq!(metadata_length(12 * 1_048_576), 32_816);
+        assert_eq!(metadata_length(12 * 1_024), 94);
+        assert_eq!(metadata_length(12 * 4_096), 190);
+        assert_eq!(metadata_length(12 * 1_048_576), 32_820);
         assert_eq!(metadata_length(12 * 512), 0);
         assert_eq!(metadata_length(12 * 2_097_152), 0);
     }
@@ -972,7 +1070,7 @@ mod tests {
             bench.run(operation, argument, 0, b"text");
             assert_eq!(bench.counts(), [1, 0, 0, 0, 2, 0, 0, 0, 1, 0, 0, 0]);
         }
-        assert_eq!(open(&bench.heap, &mut bench.metadata, 7, 11), served(0));
+        assert_eq!(bench.reopen(7, 11, PATTERN), served(0));
         assert_eq!(bench.counts(), [0; 12]);
     }
 
@@ -992,7 +1090,7 @@ mod tests {
                 assert_eq!(bench.serve(&[], &[], &[]), refused(13));
                 assert_eq!(bench.read(640, 9, b"page"), of_page(13, 0));
             }
-            assert_eq!(open(&bench.heap, &mut bench.metadata, 1, 1), served(0));
+            assert_eq!(bench.reopen(1, 1, PATTERN), served(0));
             assert_eq!(bench.run(0, 5, 0, &[]), served(640));
         }
     }
@@ -1076,5 +1174,152 @@ mod tests {
         for expected in [20_352, 16_384, 16_512] {
             assert_eq!(bench.run(0, 128, 0, &[]), served(expected));
         }
+    }
+
+    #[test]
+    fn opening_paints_slots_alone() {
+        // Regions of 1,024 bytes have slots in classes 0 to 7, of 4,096 in 0 to 9.
+        for (region, slots_end) in [(1_024, 8 * 1_024), (4_096, 10 * 4_096)] {
+            let mut heap = vec![0x55; 12 * region];
+            let mut metadata = vec![0x55; metadata_length(heap.len())];
+            let pattern = u32::from_le_bytes(FOUR);
+            assert_eq!(open(&mut heap, &mut metadata, 1, 1, pattern), served(0));
+            let painted = |(at, &byte): (usize, &u8)| byte == FOUR[at % 4];
+            assert!(heap[..slots_end].iter().enumerate().all(painted));
+            assert!(heap[slots_end..].iter().all(|&byte| byte == 0x55));
+            assert_eq!(metadata[56..60], FOUR);
+        }
+    }
+
+    #[test]
+    fn refused_opening_changes_nothing() {
+        let mut bench = Bench::with_object();
+        let (heap, metadata) = (bench.heap.clone(), bench.metadata.clone());
+        assert_eq!(bench.reopen(0, 1, 7), refused(1));
+        assert_eq!(bench.reopen(1, 0, 7), refused(1));
+        bench.metadata.pop();
+        assert_eq!(bench.reopen(0, 1, 7), refused(3));
+        bench.heap.pop();
+        assert_eq!(bench.reopen(0, 1, 7), refused(2));
+        assert_eq!(bench.heap, heap[..HEAP - 1]);
+        assert_eq!(bench.metadata, metadata[..METADATA - 1]);
+    }
+
+    #[test]
+    fn served_free_paints_its_slot() {
+        let mut bench = Bench::with_object();
+        bench.heap[632..656].copy_from_slice(b"beforeit--object--behind");
+        assert!(bench.refuses(1, 641, 9) && bench.refuses(1, 648, 10));
+        bench.metadata[56..60].copy_from_slice(&FOUR);
+        assert_eq!(bench.run(1, 640, 0, &[]), served(8));
+        assert_eq!(bench.heap[632..640], *b"beforeit");
+        assert_eq!(bench.heap[640..648], [FOUR, FOUR].concat());
+        assert_eq!(bench.heap[648..656], *b"--behind");
+        assert!(bench.refuses(1, 640, 10));
+    }
+
+    #[test]
+    fn allocation_leaves_the_heap() {
+        let mut bench = Bench::open(1, 1);
+        bench.heap[640..648].copy_from_slice(b"strayed!");
+        let heap = bench.heap.clone();
+        assert_eq!(bench.run(0, 5, 0, &[]), served(640));
+        assert_eq!(bench.heap, heap);
+    }
+
+    #[test]
+    fn inspection_lists_what_others_wrote_to() {
+        let mut bench = Bench::with_object();
+        assert_eq!(bench.run(3, 640, 0, b"Bertrand"), served(8));
+        assert_eq!(bench.inspect(), []);
+        bench.heap[648] = 0; // past the object
+        assert_eq!(bench.inspect(), [648]);
+        assert_eq!(bench.run(1, 640, 0, &[]), served(8));
+        assert_eq!(bench.inspect(), [648]);
+        bench.heap[647] = 0; // after the free
+        assert_eq!(bench.inspect(), [640, 648]);
+        assert_eq!(bench.reopen(1, 1, 0), served(0));
+        assert_eq!(bench.inspect(), []);
+    }
+
+    #[test]
+    fn inspection_finds_each_byte_of_each_slot() {
+        let fresh = Bench::open(1, 1);
+        for class in 0..10 {
+            let (start, size) = (4_096 * class, 8 << class);
+            for slot in [0, 4_096 / size - 1].map(|index| start + index * size) {
+                for at in [0, 1, size / 2, size - 2, size - 1] {
+                    let mut bench = fresh.clone();
+                    bench.heap[slot + at] ^= 1;
+                    assert_eq!(bench.inspect(), [slot as u32]);
+                }
+            }
+        }
+    }
+
+    #[test]
+    fn pattern_out_of_step_is_listed() {
+        let mut bench = Bench::open(1, 1);
+        assert_eq!(bench.reopen(1, 1, u32::from_le_bytes(FOUR)), served(0));
+        bench.heap[16..24].copy_from_slice(&[0x22, 0x33, 0x44, 0x11, 0x22, 0x33, 0x44, 0x11]);
+        assert_eq!(bench.inspect(), [16]);
+    }
+
+    #[test]
+    fn inspection_looks_at_clear_slots_alone() {
+        let mut bench = Bench::with_object();
+        bench.heap[640..648].fill(1);
+        bench.heap[10 * 4_096..].fill(1); // regions without slots
+        assert_eq!(bench.inspect(), []);
+        bench.heap.fill(1);
+        let listed = bench.inspect();
+        assert_eq!(listed.len(), 1_022);
+        assert!(listed.is_sorted() && !listed.contains(&640));
+        // A class of eight slots and less has bits beyond them, which are none.
+        bench.metadata[BITMAPS..].fill(0xFF);
+        assert_eq!(bench.inspect(), []);
+        *bench.metadata.last_mut().expect("bytes") = 0xFE;
+        assert_eq!(bench.inspect(), [9 * 4_096]);
+    }
+
+    #[test]
+    fn lists_of_every_length() {
+        let mut bench = Bench::open(1, 1);
+        bench.heap[8..24].fill(1);
+        let mut list = [7; 4];
+        for (len, answer, after) in [
+            (0, refused(14), [7; 4]),
+            (1, refused(14), [7; 4]),
+            (2, served(2), [8, 16, 7, 7]),
+            (4, served(2), [8, 16, 7, 7]),
+        ] {
+            let front = &mut list[..len];
+            assert_eq!(inspect(&bench.heap, &bench.metadata, front), answer);
+            assert_eq!(list, after);
+        }
+        bench.heap[8..24].fill(0xEE);
+        assert_eq!(inspect(&bench.heap, &bench.metadata, &mut []), served(0));
+    }
+
+    #[test]
+    fn list_is_judged_last() {
+        let mut bench = Bench::open(1, 1);
+        bench.heap.fill(1);
+        let judged = |bench: &Bench| inspect(&bench.heap, &bench.metadata, &mut [7; 9]);
+        assert_eq!(judged(&bench), refused(14));
+        bench.set_count(11, 1);
+        assert_eq!(judged(&bench), refused(13));
+        bench.metadata.pop();
+        assert_eq!(judged(&bench), refused(3));
+        bench.heap.pop();
+        assert_eq!(judged(&bench), refused(2));
+    }
+
+    #[test]
+    fn counts_of_nothing_are_inspected() {
+        let mut bench = Bench::open(1, 1);
+        bench.metadata[BITMAPS..].fill(0xFF);
+        assert!(bench.refuses(0, 8, 13) && bench.refuses(1, 0, 13));
+        assert_eq!(bench.inspect(), []);
     }
 }

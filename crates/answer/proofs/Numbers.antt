@@ -2,7 +2,7 @@
 use mathlib.Core.Path.{_≡_}
 use native.Mathlib.Omega.{arith}
 use Rattle.answer.specs.declared.Refusal.{Refusal}
-use Rattle.answer.specs.declared.Refusal.the-variants.{ZeroSeed, HeapLength, MetadataLength, MalformedRequest, UnsupportedSize, ClassTooSmall, ClassAtCapacity, OutOfRange, NotASlotStart, NotAllocated, InvalidVote, NoAgreement, CorruptMetadata}
+use Rattle.answer.specs.declared.Refusal.the-variants.{ZeroSeed, HeapLength, MetadataLength, MalformedRequest, UnsupportedSize, ClassTooSmall, ClassAtCapacity, OutOfRange, NotASlotStart, NotAllocated, InvalidVote, NoAgreement, CorruptMetadata, ListTooShort}
 use Rattle.answer.specs.Reply.{numberOf}
 
 -- a refusal's number is never that of a served request
@@ -20,3 +20,4 @@ refusal-number NotAllocated e = omega arith
 refusal-number InvalidVote e = omega arith
 refusal-number NoAgreement e = omega arith
 refusal-number CorruptMetadata e = omega arith
+refusal-number ListTooShort e = omega arith

@@ -1,12 +1,12 @@
 -- The table of refusals (the paper's slips), and what an answer says in numbers.
 use Prim.Native.Nat.{ℕ}
 use Rattle.answer.specs.declared.Refusal.{Refusal}
-use Rattle.answer.specs.declared.Refusal.the-variants.{ZeroSeed, HeapLength, MetadataLength, MalformedRequest, UnsupportedSize, ClassTooSmall, ClassAtCapacity, OutOfRange, NotASlotStart, NotAllocated, InvalidVote, NoAgreement, CorruptMetadata}
+use Rattle.answer.specs.declared.Refusal.the-variants.{ZeroSeed, HeapLength, MetadataLength, MalformedRequest, UnsupportedSize, ClassTooSmall, ClassAtCapacity, OutOfRange, NotASlotStart, NotAllocated, InvalidVote, NoAgreement, CorruptMetadata, ListTooShort}
 use Rattle.answer.specs.declared.Answer.{Answer}
 use Rattle.answer.specs.declared.Answer.the-variants.{Served, Refused}
 
 -- each refusal's number in the paper, whose words are: dead seed, wrong area, wrong book, spoilt ticket, no such size,
--- closed class, half full, off the area, no start, not live, bad ballot, no two alike, torn book
+-- closed class, half full, off the area, no start, not live, bad ballot, no two alike, torn book, short list
 abbrev pub numberOf : Refusal → ℕ
 numberOf ZeroSeed = 1
 numberOf HeapLength = 2
@@ -21,6 +21,7 @@ numberOf NotAllocated = 10
 numberOf InvalidVote = 11
 numberOf NoAgreement = 12
 numberOf CorruptMetadata = 13
+numberOf ListTooShort = 14
 
 -- an answer as the paper gives it: the refusal's number, 0 where it is served, and the value, 0 where it is refused
 pub record Reply : Type 0 where

@@ -16,6 +16,7 @@ pub enum Refusal {
     InvalidVote,
     NoAgreement,
     CorruptMetadata,
+    ListTooShort,
 }
 
 pub enum Answer {
@@ -41,6 +42,7 @@ impl Refusal {
             Refusal::InvalidVote => 11,
             Refusal::NoAgreement => 12,
             Refusal::CorruptMetadata => 13,
+            Refusal::ListTooShort => 14,
         }
     }
 }

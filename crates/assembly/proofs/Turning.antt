@@ -6,8 +6,9 @@ use mathlib.Core.List.{List}
 use native.Mathlib.Nat.{sub-zero}
 use native.Mathlib.Omega.{arith}
 use lib.ListN.{length, take, drop}
-use lib.Seq.{drop-at, length-take-le, take-add}
+use lib.Seq.{length-take-le}
 use Rattle.writing.specs.Overwrite.{overwrite}
+use Rattle.writing.proofs.Parts.{drop-take}
 use Rattle.numbers.proofs.Cut.{take-min}
 use Rattle.assembly.specs.Batch.{linesFrom, restFrom, rest, requestsOf, messagesOf}
 use Rattle.assembly.specs.Batch.{requestsIn, messagesIn, doneOf, fits, admitted}
@@ -15,9 +16,6 @@ use Rattle.assembly.specs.Pieces.{longestStart}
 use Rattle.assembly.specs.Turn.{textIn, Outcome, outcome}
 use Rattle.assembly.specs.declared.Done.{Done}
 use Rattle.assembly.proofs.Gathering.{Gathers}
-
-drop-take : (a n : ℕ) (xs : List ℕ) → a ≤ length xs → drop a (take (a + n) xs) ≡ take n (drop a xs)
-drop-take a n xs h = rw take-add (drop-at (take a xs) (take n (drop a xs)) a (length-take-le a xs h))
 
 -- what a turn answers and leaves, and the front of a buffer as it is lent
 abbrev pub turned : (kept next requests messages : ℕ) → List ℕ → List ℕ → List ℕ → Outcome
@@ -59,7 +57,7 @@ module _ (input : List ℕ) (kept got number : ℕ) (out errors : List ℕ) {end
     left : take (end - done .used) (drop (done .used) buffer) ≡ rest (front end buffer)
     left =
         let all : done .used + (end - done .used) ≡ end - 0 = omega (arith, size, read .1) in
-        rw (← drop-take (done .used) (end - done .used) buffer (omega (arith, size, read .1)), all) after
+        rw (← drop-take (done .used) (end - done .used) buffer, all) after
 
     pub a-turn : {n k : ℕ} {input′ out′ errors′ : List ℕ} → n ≡ min longestStart (end - done .used)
         → let start = take n (drop (done .used) buffer) in (k ≡ length start) × (input′ ≡ overwrite buffer 0 start)

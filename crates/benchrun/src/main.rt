@@ -1,5 +1,5 @@
-// Replays requests from standard input on a heap with regions of 4,096 bytes, opened with z = 1 and w = 1, and prints a
-// line for each.
+// Replays requests from standard input on a heap with regions of 4,096 bytes, opened with z = 1, w = 1 and four zero
+// bytes as the pattern, and prints a line for each.
 use libc::STDERR_FILENO;
 use program::DONE;
 use program::FAILED;
@@ -13,8 +13,8 @@ fn serve_input() -> u8
     ensures { λ r. ⌜ (r ≡ 0) ⊎ (r ≡ 2) ⌝ }
 {
     let mut heap = [0u8; 49152];
-    let mut metadata = [0u8; 186];
-    heap::open(&heap, &mut metadata, 1, 1);
+    let mut metadata = [0u8; 190];
+    heap::open(&mut heap, &mut metadata, 1, 1, 0);
     let mut input = [0u8; 16384];
     let mut out = io::large_buffer();
     let mut kept: usize = 0;
@@ -64,7 +64,8 @@ fn main() {
             let shown = program::print(
                 b"usage: benchrun < REQUESTS\n\
                 \n\
-                Serves requests on a heap of 49152 bytes that was opened with z = 1 and w = 1.\n\
+                Serves requests on a heap of 49152 bytes that was opened with z = 1, w = 1 and four zero bytes as\n\
+                the pattern.\n\
                 \n\
                 Input: requests of 16 bytes, served as they come. A request is four little-endian words: the\n\
                 operation (0 allocate, 1 free, 2 remaining size, 3 copy bytes, 4 copy string, 5 copy padded, 6\n\

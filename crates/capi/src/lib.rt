@@ -6,6 +6,7 @@ ghost use Rattle.answer.specs.Reply.{replyOf};
 ghost use Rattle.rules.specs.Open.{setup};
 ghost use Rattle.rules.specs.Serve.{lentWith};
 ghost use Rattle.rules.specs.Call.{call, reading, opening};
+ghost use Rattle.rules.specs.Inspect.{inspection};
 ghost use Rattle.vote.specs.Decide.{decide, tally, outputAfter, NamesWinner};
 ghost use Rattle.capi.specs.Numbers.{replyIn, tallyIn, partOf, metadataBytes};
 use answer::Answer;
@@ -45,12 +46,19 @@ fn in_numbers(answer: Answer) -> PohelduAnswer
 }
 
 #[no_mangle]
-pub extern "C" fn poheldu_open(heap: &[u8], metadata: &mut [u8], z: u32, w: u32) -> PohelduAnswer
+pub extern "C" fn poheldu_open(
+    heap: &mut [u8],
+    metadata: &mut [u8],
+    z: u32,
+    w: u32,
+    pattern: u32,
+) -> PohelduAnswer
     ensures { λ r.
-        let called = opening (length (now (heap .entry))) (now (metadata .entry)) (setup z w) in
-        ⌜ (replyIn r ≡ called .answer) × (now (metadata .exit) ≡ called .metadata) ⌝ }
+        let called = opening (length (now (heap .entry))) (now (metadata .entry)) (setup z w pattern) in
+        ⌜ (replyIn r ≡ called .answer) × (now (metadata .exit) ≡ called .metadata)
+        × (now (heap .exit) ≡ called .heap (now (heap .entry))) ⌝ }
 {
-    in_numbers(heap::open(heap, metadata, z, w))
+    in_numbers(heap::open(heap, metadata, z, w, pattern))
 }
 
 #[no_mangle]
@@ -100,6 +108,15 @@ pub extern "C" fn poheldu_read(
             start: 0,
         },
     }
+}
+
+#[no_mangle]
+pub extern "C" fn poheldu_inspect(heap: &[u8], metadata: &[u8], list: &mut [u32]) -> PohelduAnswer
+    ensures { λ r.
+        let inspected = inspection (now (heap .entry)) (now (metadata .entry)) (now (list .entry)) in
+        ⌜ (replyIn r ≡ inspected .answer) × (now (list .exit) ≡ inspected .list) ⌝ }
+{
+    in_numbers(inspect::inspect(heap, metadata, list))
 }
 
 #[no_mangle]

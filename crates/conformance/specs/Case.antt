@@ -6,7 +6,7 @@ use Rattle.words.specs.Word.{wordAt}
 use Rattle.request.specs.Parse.{requestSize}
 use Rattle.geometry.specs.Layout.{layoutOf, metadataLength}
 use Rattle.rules.specs.Open.{setup}
-use Rattle.rules.specs.Call.{State, opening}
+use Rattle.rules.specs.Call.{Call, State, stateOf, opening}
 use Rattle.conformance.specs.declared.Case.{Case}
 
 -- room for the bytes of a heap, of its metadata and of a source, and for requests
@@ -31,10 +31,13 @@ caseOf header =
       metadata = min (metadataLength (layoutOf heap)) metadataRoom;
       z = wordAt header 4;
       w = wordAt header 8;
-      source = min (wordAt header 12) sourceRoom;
-      requests = requestSize * min (wordAt header 16) requestsRoom;
+      canary = wordAt header 12;
+      source = min (wordAt header 16) sourceRoom;
+      requests = requestSize * min (wordAt header 20) requestsRoom;
     }
 
--- what the requests are served on: the heap as it was, and the metadata as the opening leaves it
-abbrev pub openedState : List ℕ → List ℕ → ℕ → ℕ → State
-openedState heap metadata z w = record { heap = heap; metadata = opening (length heap) metadata (setup z w) .metadata }
+-- what the requests are served on: the heap and the metadata as the opening leaves them
+abbrev pub openedState : List ℕ → List ℕ → ℕ → ℕ → ℕ → State
+openedState heap metadata z w canary =
+    let opened : Call = opening (length heap) metadata (setup z w canary) in
+    stateOf (opened .heap heap) (opened .metadata)

@@ -1,18 +1,18 @@
 // Runs cases from standard input: for each it opens a heap, serves requests on it, and prints a line for the opening,
 // one for each request, and one with a digest of the heap's bytes.
 //
-// A case is a header of five little-endian words, the heap's length, z, w, the length of a source and a number of
-// requests, and then the source, which all requests are lent, and the requests, of sixteen bytes each. A heap length
-// above 98,304 counts as 98,304, a source's above 8,192 as 8,192, and a number of requests above 1,024 as 1,024. The
-// heap's bytes stay as the case before left them, and so does the metadata where an opening is refused. A header that
-// is cut short ends the run.
+// A case is a header of six little-endian words, the heap's length, z, w, the pattern, the length of a source and a
+// number of requests, and then the source, which all requests are lent, and the requests, of sixteen bytes each. A heap
+// length above 98,304 counts as 98,304, a source's above 8,192 as 8,192, and a number of requests above 1,024 as 1,024.
+// What an opening does not write stays as the case before left it: bytes in no slot, and where it is refused the whole
+// heap and the metadata. A header that is cut short ends the run.
 use geometry::Plan;
 use libc::STDIN_FILENO;
 use libc::STDOUT_FILENO;
 use numbers::least;
 use numbers::wide;
 ghost use mathlib.Core.Path.{_≡_};
-ghost use Prim.Native.Nat.{_+_, _*_, _^_, _<_, _≤_, min};
+ghost use Prim.Native.Nat.{_+_, _*_, _<_, _≤_, min};
 ghost use lib.ListN.{length};
 ghost use Rattle.answer.specs.Reply.{Reply};
 ghost use Rattle.words.specs.Word.{wordAt};
@@ -34,14 +34,15 @@ const SOURCE: usize = 8192;
 const REQUESTS: usize = 1024;
 
 // The bytes of a header.
-const HEADER: usize = 20;
+const HEADER: usize = 24;
 
-// The lengths of a case's heap, metadata, source and requests, and its seeds.
+// The lengths of a case's heap, metadata, source and requests, its seeds, and its pattern, the canary.
 struct Case {
     heap: usize,
     metadata: usize,
     z: u32,
     w: u32,
+    canary: u32,
     source: usize,
     requests: usize,
 }
@@ -60,7 +61,7 @@ fn word_up_to(header: &[u8], at: usize, most: usize) -> usize
     least(wide(words::get(header, at)), most)
 }
 
-// Reads a header. No heap that there is room for has more than 314 bytes of metadata, so its length is never cut.
+// Reads a header. No heap that there is room for has more than 318 bytes of metadata, so its length is never cut.
 fn case_of(header: &[u8]) -> Case
     ensures { λ r. ⌜ r ≡ caseOf (now (header .entry)) ⌝ }
     ensures { λ r.
@@ -68,13 +69,14 @@ fn case_of(header: &[u8]) -> Case
         × (r .requests ≤ requestSize * requestsRoom) ⌝ }
 {
     let heap = word_up_to(header, 0, HEAP);
-    let requests = word_up_to(header, 16, REQUESTS);
+    let requests = word_up_to(header, 20, REQUESTS);
     Case {
         heap,
         metadata: least(Plan::of(heap).metadata, METADATA),
         z: words::get(header, 4),
         w: words::get(header, 8),
-        source: word_up_to(header, 12, SOURCE),
+        canary: words::get(header, 12),
+        source: word_up_to(header, 16, SOURCE),
         requests: request::SIZE * requests,
     }
 }
@@ -98,22 +100,23 @@ fn run(
     metadata: &mut [u8],
     z: u32,
     w: u32,
+    canary: u32,
     source: &[u8],
     requests: &[u8],
     out: &mut [u8],
 ) -> Ran
     ensures { λ r.
-        let opened : Reply = opening (length (now (heap .entry))) (now (metadata .entry)) (setup z w) .answer in
+        let opened : Reply = opening (length (now (heap .entry))) (now (metadata .entry)) (setup z w canary) .answer in
         ⌜ _≡_ {A = Reply} (record { number = r .number; value = r .value }) opened ⌝ }
     ensures { λ r.
-        let s : State = openedState (now (heap .entry)) (now (metadata .entry)) z w in
+        let s : State = openedState (now (heap .entry)) (now (metadata .entry)) z w canary in
         let b : Batch = batchOf (now (source .entry)) (length (now (out .entry))) s 1 (now (requests .entry)) in
         ⌜ (r .written ≡ length (b .text))
         × (now (out .exit) ≡ overwrite (now (out .entry)) 0 (b .text))
         × (stateOf (now (heap .exit)) (now (metadata .exit)) ≡ b .state) ⌝ }
     ensures { λ r. ⌜ r .written ≤ length (now (out .exit)) ⌝ }
 {
-    let answer = heap::open(heap, metadata, z, w);
+    let answer = heap::open(heap, metadata, z, w, canary);
     let done = replay::batch(heap, metadata, requests, source, 1, out);
     Ran {
         number: answer.number(),
@@ -163,6 +166,7 @@ fn main() {
             &mut metadata[0..metadata_len],
             case.z,
             case.w,
+            case.canary,
             &source[0..lent],
             &requests[0..got],
             &mut out,

@@ -3,7 +3,7 @@ use Prim.Native.Nat.{ℕ, zero, suc, min, _+_, _-_, _%_, _<_, _≤_}
 use mathlib.Core.Path.{_≡_, refl, sym, ap, _∙_}
 use mathlib.Core.Bool.{Bool, true, false, _||_}
 use mathlib.Core.List.{List, [], _∷_}
-use native.Mathlib.Nat.{zero-add, suc-add, add-sub-cancel-left, not-suc-le-zero, le-of-suc-le-suc, mod-lt, mod-eq-of-lt, mod-eq-sub-mod}
+use native.Mathlib.Nat.{zero-add, suc-add, add-sub-cancel-left, not-suc-le-zero, le-of-suc-le-suc, mod-lt}
 use native.Mathlib.Decide.{decLt}
 use native.Mathlib.Omega.{arith}
 use borrow.Author.Tests.{lt-ltb, le-ltb, ltb-true, ltb-false}
@@ -91,17 +91,3 @@ module _ (count found rest block : ℕ) {at : ℕ} (e : at ≡ min count found -
   -- the end is in the block from there on
   pub end-near : 0 < block → at + block ≤ count → min (at + block) found ≡ min count found
   end-near some fits = let less : rest % block < block = mod-lt rest some in omega (arith, less)
-
--- a search to an end by blocks from a start
-module _ (start end block at : ℕ) where
-  -- a block more is passed
-  pub block-passed : at + block ≤ end → (end - at) % block ≡ (end - start) % block → (end - (at + block)) % block ≡ (end - start) % block
-  block-passed h e =
-      let less : end - (at + block) ≡ end - at - block = omega arith in
-      ap (λ (n : ℕ). n % block) less ∙ sym (mod-eq-sub-mod (omega arith)) ∙ e
-
-  -- the end is in the next block
-  pub block-last : at ≤ end → end < at + block → (end - at) % block ≡ (end - start) % block → at ≡ end - (end - start) % block
-  block-last h less e =
-      let rest : end - at ≡ (end - start) % block = sym (mod-eq-of-lt (omega arith)) ∙ e in
-      omega (arith, rest)

@@ -1,6 +1,6 @@
 -- Laws of the layout over the class and the slot size as variables. What a slot size is, 8 · 2 ^ c, only `slot-size-of`
 -- and `slot-size-le` see.
-use Prim.Native.Nat.{ℕ, suc, min, zero-le, _+_, _-_, _*_, _^_, _≤_, _<_}
+use Prim.Native.Nat.{ℕ, suc, min, zero-le, _+_, _-_, _*_, _%_, _^_, _≤_, _<_}
 use mathlib.Core.Path.{_≡_, refl, sym, ap, _∙_}
 use mathlib.Core.Bool.{Bool, true, false, cond}
 use native.Mathlib.Nat.{div-zero, le-refl, add-zero}
@@ -60,6 +60,16 @@ slot-size-of G {c} h = rw (lt-ltb c classes h, slotSize)
 pub slot-size-past : (G : Layout) {c : ℕ} → classes ≤ c → slotSize G c ≡ 0
 unfolding slotSize
 slot-size-past G {c} h = rw (le-ltb c classes h, slotSize)
+
+-- a slot has bytes, and is whole words of four bytes long
+pub slot-size-some : (G : Layout) {c : ℕ} → c < classes → 0 < slotSize G c
+slot-size-some G {c} h = rw (slot-size-of G h) (omega (arith, pow-mono {i = 0} {j = c} (omega arith)))
+
+pub slot-size-whole : (G : Layout) (c : ℕ) → slotSize G c % 4 ≡ 0
+slot-size-whole G c = elim (decLt c classes) [
+  | yes h ↦ omega (arith, slot-size-of G h)
+  | no h ↦ omega (arith, slot-size-past G {c = c} (omega arith))
+]
 
 -- no class's slots are longer than the last one's
 abbrev pub longestSlot : ℕ

@@ -1,7 +1,7 @@
 -- Slots lie apart and within the heap, whatever the slot sizes and the region length.
 use Prim.Native.Nat.{ℕ, suc, _+_, _-_, _*_, _/_, _%_, _≤_, _<_}
 use mathlib.Core.Path.{_≡_, ap, _∙_}
-use native.Mathlib.Nat.{le-trans, pos-of-ne-zero, suc-mul, mul-le-mul-right, mod-lt}
+use native.Mathlib.Nat.{le-refl, le-trans, pos-of-ne-zero, mul-zero, suc-mul, mul-le-mul-right, mod-lt}
 use native.Mathlib.Nat.{div-zero, div-le-self, div-mul-le-self, div-add-mod', div-lt-iff-lt-mul}
 use native.Mathlib.Decide.{decLt}
 use native.Mathlib.Omega.{arith}
@@ -37,6 +37,10 @@ slot-start-le G {c} {i} h l =
     let region : slots G c * slotSize G c ≤ G .region = div-mul-le-self (G .region) (slotSize G c) in
     let regions : suc c * G .region ≤ heapLength G = mul-le-mul-right (G .region) h in
     omega (arith, suc-mul c (G .region))
+
+-- so do all slots of a class, side by side
+pub slots-end-le : (G : Layout) {c : ℕ} → c < classes → c * G .region + slots G c * slotSize G c ≤ heapLength G
+slots-end-le G {c} h = slot-start-le G h (le-refl (slots G c))
 
 -- a byte of a slot is located there, so slots share no byte
 pub slot-located : (G : Layout) (c i x : ℕ) → i < slots G c → slotStart G c i ≤ x → x < slotStart G c i + slotSize G c
@@ -74,3 +78,37 @@ module _ (G : Layout) (offset : ℕ) (some : locate G offset .slot < slots G (lo
         div-add-mod' offset (G .region),
         div-add-mod' (offset % G .region) (slotSize G (offset / G .region)),
       )
+
+-- the slots of a class lie side by side from its region's start on, and their bytes are located in them
+module _ (G : Layout) (c x : ℕ) where
+  pub slots-hold : c * G .region ≤ x → x < c * G .region + slots G c * slotSize G c
+      → (locate G x .class ≡ c) × (locate G x .slot < slots G (locate G x .class)) × (x % G .region ≡ x - c * G .region)
+  slots-hold l u =
+      let s : ℕ = slotSize G c in
+      let into : ℕ = x - c * G .region in
+      let some : 0 < s = pos-of-ne-zero (λ e. let none : slots G c * s ≡ 0 = rw (e, mul-zero) in omega arith) in
+      let slot : into / s < slots G c = div-lt-iff-lt-mul {k = s} some .1 (omega arith) in
+      let split : into / s * s + into % s ≡ into = div-add-mod' into s in
+      let (class, at) = slot-located G c (into / s) x slot (omega arith) (omega (arith, mod-lt into some)) in
+      let rest : x / G .region * G .region ≡ c * G .region = ap (λ (r : ℕ). r * G .region) class in
+      (class, rw (at, class) slot, omega (arith, rest, div-add-mod' x (G .region)))
+
+  pub slots-held : locate G x .class ≡ c → locate G x .slot < slots G (locate G x .class)
+      → (c * G .region ≤ x) × (x < c * G .region + slots G c * slotSize G c)
+  slots-held class slot =
+      let s : ℕ = slotSize G c in
+      let at : x % G .region / s < slots G c = rw class at slot in
+      let rest : x / G .region * G .region ≡ c * G .region = ap (λ (r : ℕ). r * G .region) class in
+      let some : 0 < s = slot-size-pos G c (x % G .region / s) at in
+      let inside : x % G .region < slots G c * s = div-lt-iff-lt-mul {k = s} some .0 at in
+      omega (arith, rest, div-add-mod' x (G .region))
+
+-- where a slot starts, an offset lies no way into it
+pub slot-start-into : (G : Layout) (c i : ℕ) → i < slots G c → locate G (slotStart G c i) .into ≡ 0
+slot-start-into G c i h =
+    let x : ℕ = slotStart G c i in
+    let (class, slot) = slot-located G c i x h (le-refl x) (omega (arith, slot-size-pos G c i h)) in
+    let region : x / G .region * G .region ≡ c * G .region = ap (λ (r : ℕ). r * G .region) class in
+    let s : ℕ = slotSize G (x / G .region) in
+    let rest : x % G .region / s * s ≡ i * slotSize G c = rw (class, rw class at slot) in
+    omega (arith, region, rest, div-add-mod' x (G .region), div-add-mod' (x % G .region) s)

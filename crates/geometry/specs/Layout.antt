@@ -57,9 +57,17 @@ locate G offset =
 
 -- ---- the metadata
 
--- the length of the fields before the bitmaps: two words of four bytes, and one for each class
+-- the fields before the bitmaps are words of four bytes: the generator's two at the front, from here on one for each
+-- class, and one for the canary
+abbrev pub countsAt : ℕ
+countsAt = 8
+
+abbrev pub canaryAt : ℕ
+canaryAt = countsAt + 4 * classes
+
+-- their length
 abbrev pub header : ℕ
-header = 4 * (2 + classes)
+header = canaryAt + 4
 
 abbrev pub bitmapLength : Layout → ℕ → ℕ
 bitmapLength G c = (slots G c + 7) / 8

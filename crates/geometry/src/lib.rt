@@ -26,8 +26,13 @@ const MEDIUM: usize = 256;
 
 const LARGE: usize = 1024;
 
-// The length of the metadata's fields before the bitmaps: two words of four bytes, and one for each class.
-pub const HEADER: usize = 4 * (2 + CLASSES);
+// Where the metadata keep the live counts, a word of four bytes for each class, and then the canary.
+pub const COUNTS: usize = 8;
+
+pub const CANARY: usize = COUNTS + 4 * CLASSES;
+
+// The length of the fields before the bitmaps.
+pub const HEADER: usize = CANARY + 4;
 
 // How a heap is laid out. A region length of 0 stands for no heap: it has no slots.
 pub struct Layout {

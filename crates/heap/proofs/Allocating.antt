@@ -18,11 +18,12 @@ use Rattle.answer.specs.Reply.{served}
 use Rattle.rules.specs.declared.Found.{Found}
 use Rattle.writing.specs.Overwrite.{overwrite}
 use Rattle.rules.specs.Metadata.{generatorOf, withGenerator, countOf, withCount}
+use Rattle.rules.proofs.Metadata.{part-bitmap}
 use Rattle.heap.specs.Relied.{bitsOf}
 use Rattle.answer.specs.Checks.{_when_, checked}
 use Rattle.rules.specs.Outcome.{Outcome, refused, reply, metadataAfter}
 use Rattle.rules.specs.Allocate.{draws, probe, foundIn, taken, allocate}
-use Rattle.heap.proofs.Part.{part-bits, part-changed}
+use Rattle.heap.proofs.Part.{part-changed}
 
 -- ---- taking a slot
 
@@ -34,7 +35,7 @@ module _ (G : Layout) (m : List ℕ) (c : ℕ) {p : Part} {g : Generator} {found
     (drew : found ≡ probe (bitsOf p m) (p .slots) g 0 draws) where
   -- the search is that of the class's bitmap
   chosen : found ≡ foundIn G m c
-  chosen = drew ∙ rw (part-bits G c of m, of, seeds)
+  chosen = drew ∙ rw (part-bitmap G c of m, of, seeds)
 
   -- it finds none clear
   pub taken-none : p .slots ≤ found .slot → unlessFull G m c ≡ refused CorruptMetadata

@@ -1,8 +1,8 @@
 pub mod Part
-pub mod Admitting
 pub mod Allocating
 pub mod Live
 pub mod Freeing
+pub mod Releasing
 pub mod Copying
 pub mod Viewing
 pub mod Performing

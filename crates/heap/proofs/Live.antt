@@ -8,17 +8,17 @@ use Rattle.geometry.specs.declared.Location.{Location}
 use Rattle.geometry.specs.declared.Part.{Part}
 use Rattle.geometry.specs.Layout.{heapLength, slotSize, locate, partOf}
 use Rattle.bitmap.specs.Bitmap.{isSet}
+use Rattle.rules.proofs.Metadata.{part-bitmap}
 use Rattle.heap.specs.Relied.{bitsOf}
 use Rattle.rules.specs.Object.{isLive, space}
 use Rattle.rules.proofs.Space.{space-within}
-use Rattle.heap.proofs.Part.{part-bits}
 
 -- the code tests the part that is the class's bitmap
 pub tested-live : (G : Layout) (m : List ℕ) (offset : ℕ) {l : Location} {p : Part} {t : Bool} → l ≡ locate G offset
     → p ≡ partOf G (l .class)
     → t ≡ isSet (bitsOf p m) (p .slots) (l .slot)
     → isLive G m (locate G offset) ≡ t
-tested-live G m offset {l} at of tested = sym (tested ∙ rw (part-bits G (l .class) of m, of, at))
+tested-live G m offset {l} at of tested = sym (tested ∙ rw (part-bitmap G (l .class) of m, of, at))
 
 module _ (G : Layout) (m : List ℕ) (offset : ℕ) (inside : offset < heapLength G) where
   -- what is measured: the space, which is within the heap and no more than a slot

@@ -7,9 +7,9 @@ use Rattle.geometry.specs.declared.Layout.{Layout}
 use Rattle.request.specs.declared.Kind.{Kind}
 use Rattle.rules.specs.Outcome.{Outcome, metadataAfter, heapAfter}
 use Rattle.rules.specs.Allocate.{allocate}
-use Rattle.rules.specs.Object.{free, remaining, copy}
+use Rattle.rules.specs.Object.{remaining, copy}
 use Rattle.rules.specs.Read.{read}
-use Rattle.rules.proofs.Results.{Comes, refuses, serves, allocate-comes, free-comes, remaining-comes, copy-comes, read-comes}
+use Rattle.rules.proofs.Results.{Comes, refuses, serves, allocate-comes, remaining-comes, copy-comes, read-comes}
 
 -- a refusal leaves the heap and the metadata alone
 heap-left : (G : Layout) (m h : List ℕ) {o o′ : Outcome} → Comes o o′ → heapAfter G m h o ≡ h → h ≡ heapAfter G m h o′
@@ -33,9 +33,6 @@ module _ (G : Layout) (m : List ℕ) where
   module _ (h : List ℕ) where
     pub allocate-heap : (size : ℕ) → h ≡ heapAfter G m h (allocate G m size)
     allocate-heap size = heap-left G m h (allocate-comes G m size) refl
-
-    pub free-heap : (offset : ℕ) → h ≡ heapAfter G m h (free G m offset)
-    free-heap offset = heap-left G m h (free-comes G m offset) refl
 
     -- measuring writes no bytes
     pub remaining-heap : (offset : ℕ) → h ≡ heapAfter G m h (remaining G m offset)

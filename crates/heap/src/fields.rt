@@ -1,13 +1,15 @@
 // The metadata's fields before the bitmaps: words at their places. They are lent as a part whose length the compiler
 // knows, so that it tests no place.
+use geometry::CANARY;
+use geometry::COUNTS;
 use geometry::HEADER;
 use mwc::Generator;
 ghost use mathlib.Core.Path.{_≡_};
 ghost use Prim.Native.Nat.{_+_, _≤_, _<_};
-ghost use lib.ListN.{length};
+ghost use lib.ListN.{length, replicate};
 ghost use Rattle.words.specs.Word.{wordAt, putWord};
 ghost use Rattle.geometry.specs.Layout.{classes, header};
-ghost use Rattle.rules.specs.Metadata.{generatorOf, withGenerator, countAt, countOf, withCount};
+ghost use Rattle.rules.specs.Metadata.{generatorOf, withGenerator, countAt, countOf, withCount, canaryOf, withCanary};
 
 const Z: usize = 0;
 
@@ -45,12 +47,12 @@ pub fn store(metadata: &mut [u8], generator: Generator)
     put(metadata, W, generator.w);
 }
 
-// Where a class's live count stands: after the two words of the generator.
+// Where a class's live count stands.
 fn count_at(class: usize) -> usize
     requires { ⌜ class < classes ⌝ }
     ensures { λ r. ⌜ r ≡ countAt class ⌝ }
 {
-    4 * (2 + class)
+    COUNTS + 4 * class
 }
 
 pub fn count(metadata: &[u8], class: usize) -> u32
@@ -65,4 +67,23 @@ pub fn store_count(metadata: &mut [u8], class: usize, count: u32)
     ensures { λ _. ⌜ now (metadata .exit) ≡ withCount (now (metadata .entry)) class count ⌝ }
 {
     put(metadata, count_at(class), count);
+}
+
+pub fn canary(metadata: &[u8]) -> u32
+    requires { ⌜ header ≤ length (now metadata) ⌝ }
+    ensures { λ r. ⌜ r ≡ canaryOf (now (metadata .entry)) ⌝ }
+{
+    get(metadata, CANARY)
+}
+
+// Zeros throughout, but for the generator and the canary.
+pub fn reset(metadata: &mut [u8], generator: Generator, canary: u32)
+    requires { ⌜ header ≤ length (now metadata) ⌝ }
+    ensures { λ _.
+        let m = now (metadata .entry) in
+        ⌜ now (metadata .exit) ≡ withCanary (withGenerator (replicate (length m) 0) generator) canary ⌝ }
+{
+    fill::clear(metadata);
+    store(metadata, generator);
+    put(metadata, CANARY, canary);
 }

@@ -1,11 +1,11 @@
 // The heap: opening, seven operations and one entry point for requests, and reads with plain arguments.
-mod admission;
 mod allocate;
 mod bits;
 mod copy;
 mod fields;
 mod object;
 mod reading;
+mod release;
 
 use answer::Answer;
 use answer::Refusal;
@@ -26,21 +26,22 @@ ghost use Rattle.rules.specs.Serve.{lentWith, perform, act};
 ghost use Rattle.rules.specs.Call.{calledBy, call, reading, opening};
 ghost use Rattle.heap.specs.Looked.{answerOf, viewShown};
 
-// Writes fresh metadata for a heap of this length. The heap's bytes are left alone.
-pub fn open(heap: &[u8], metadata: &mut [u8], z: u32, w: u32) -> Answer
+// Writes fresh metadata for a heap of this length, and the canary into every slot.
+pub fn open(heap: &mut [u8], metadata: &mut [u8], z: u32, w: u32, canary: u32) -> Answer
     ensures { λ r.
-        let called = opening (length (now (heap .entry))) (now (metadata .entry)) (setup z w) in
-        ⌜ (replyOf r ≡ called .answer) × (now (metadata .exit) ≡ called .metadata) ⌝ }
+        let called = opening (length (now (heap .entry))) (now (metadata .entry)) (setup z w canary) in
+        ⌜ (replyOf r ≡ called .answer) × (now (metadata .exit) ≡ called .metadata)
+        × (now (heap .exit) ≡ called .heap (now (heap .entry))) ⌝ }
 {
     match judge::lengths(heap.len(), metadata.len()) {
         Judged::Unfit(refusal) => Answer::Refused(refusal),
-        Judged::Laid(_) => {
+        Judged::Laid(layout) => {
             let seeds = Generator { z, w };
             if seeds.is_unusable() {
                 return Answer::Refused(Refusal::ZeroSeed);
             }
-            fill::clear(metadata);
-            fields::store(metadata, seeds);
+            fields::reset(metadata, seeds, canary);
+            canary::fill_slots(heap, layout, canary);
             Answer::Served(0)
         }
     }
@@ -65,7 +66,7 @@ fn perform(
 {
     match request {
         Request::Allocate(size) => allocate::allocate(metadata, layout, size),
-        Request::Free(offset) => object::free(metadata, layout, offset),
+        Request::Free(offset) => release::free(heap, metadata, layout, offset),
         Request::Remaining(offset) => object::remaining(metadata, layout, offset),
         Request::Copy(offset, kind) => copy::copy(heap, metadata, layout, offset, kind, source),
         Request::Read(offset, count) => {
@@ -111,14 +112,9 @@ pub fn serve(
         ⌜ (replyOf r ≡ called .answer) × (now (metadata .exit) ≡ called .metadata)
         × (now (heap .exit) ≡ called .heap (now (heap .entry))) ⌝ }
 {
-    match judge::lengths(heap.len(), metadata.len()) {
+    match judge::admit(heap.len(), metadata) {
         Judged::Unfit(refusal) => Answer::Refused(refusal),
-        Judged::Laid(layout) => {
-            if admission::any_over(metadata, layout) {
-                return Answer::Refused(Refusal::CorruptMetadata);
-            }
-            act(heap, metadata, layout, request, source, page)
-        }
+        Judged::Laid(layout) => act(heap, metadata, layout, request, source, page),
     }
 }
 
@@ -128,14 +124,9 @@ pub fn look(heap: &[u8], metadata: &[u8], offset: u32, count: u32, page: &[u8]) 
         let called = reading (length (now (heap .entry))) (now (metadata .entry)) offset count (now (page .entry)) in
         ⌜ (answerOf r ≡ called .answer) × (viewShown r ≡ called .view) ⌝ }
 {
-    match judge::lengths(heap.len(), metadata.len()) {
+    match judge::admit(heap.len(), metadata) {
         Judged::Unfit(refusal) => Looked::Refused(refusal),
-        Judged::Laid(layout) => {
-            if admission::any_over(metadata, layout) {
-                return Looked::Refused(Refusal::CorruptMetadata);
-            }
-            reading::read(metadata, layout, offset, count, page.len())
-        }
+        Judged::Laid(layout) => reading::read(metadata, layout, offset, count, page.len()),
     }
 }
 

@@ -1,4 +1,4 @@
--- Both tables hold: a test, computed over all rows of each, and one law that turns it into the equation of each row.
+-- The tables hold: a test, computed over all rows of each, and one law that turns it into the equation of each row.
 use Prim.Native.Nat.{ℕ, zero, suc, _<_}
 use mathlib.Core.Path.{_≡_, refl}
 use mathlib.Core.Bool.{Bool, true, false, false≢true, _&&_}
@@ -7,6 +7,7 @@ use native.Mathlib.Nat.{not-suc-le-zero, le-of-suc-le-suc}
 use lib.ListN.{length, getD}
 use Rattle.bytes.specs.Bytes.{indexOf, indexAfter}
 use Rattle.search.specs.First.{first}
+use Rattle.search.specs.Those.{those}
 use Rattle.geometry.specs.Layout.{slotSize, bitmapAt}
 use Rattle.bitmap.specs.Bitmap.{putByte, nextClear}
 use Rattle.request.specs.Parse.{parse}
@@ -15,13 +16,17 @@ use Rattle.rules.specs.Allocate.{probe, allocate}
 use Rattle.rules.specs.Object.{free, space, remaining, copy}
 use Rattle.rules.specs.Read.{read}
 use Rattle.rules.specs.Call.{serving, opening}
+use Rattle.rules.specs.Inspect.{inspection}
 use Rattle.alike.specs.Alike.{alike}
 use Rattle.search.specs.Tabulate.{tabulate}
 use Rattle.vote.specs.Decide.{digits, leader, count, decide}
 use Rattle.alike.proofs.Equal.{alike-equal}
 use Rattle.known_answers.specs.Calls.{Row, row, numbers, opened, clear, answerTo, after, placeOf, showing, voting}
+use Rattle.known_answers.specs.Calls.{inspecting}
 use Rattle.known_answers.specs.Table.{table, start, oneObject, copying, bytesVoted}
 use Rattle.known_answers.specs.Further.{further, lastSet, firstSet, atCapacity, afterSeven, letters, kept, nearHalf, classFive, onlySlotSet, counting, shownThere}
+use Rattle.known_answers.specs.Canaries.{canaries, openedWith, newly, part, overrun, freeing, newHits}
+use Rattle.known_answers.specs.Canaries.{fewClear, twoHit}
 
 -- the two sides of each row are the same numbers
 allAlike : List Row → Bool
@@ -35,8 +40,12 @@ both false b e = absurd (false≢true e)
 abbrev pub nothing : Row
 nothing = record { computed = []; expected = [] }
 
+-- each row of a table is right
+abbrev pub Right : List Row → Type 0
+Right rows = (i : ℕ) → i < length rows → getD rows i nothing .computed ≡ getD rows i nothing .expected
+
 -- the test at a whole table gives the equation of each row
-each : (rows : List Row) → allAlike rows ≡ true → (i : ℕ) → i < length rows → getD rows i nothing .computed ≡ getD rows i nothing .expected
+each : (rows : List Row) → allAlike rows ≡ true → Right rows
 unfolding allAlike
 each [] e i h = absurd (not-suc-le-zero h)
 each (r ∷ rows) e zero h = alike-equal (r .computed) (r .expected) (both (alike (r .computed) (r .expected)) (allAlike rows) e .0)
@@ -54,10 +63,19 @@ unfolding allAlike further lastSet firstSet atCapacity afterSeven letters kept n
     probe allocate free space remaining copy read serving opening alike tabulate digits leader count decide
 further-computes = refl
 
+canaries-compute : allAlike canaries ≡ true
+unfolding allAlike canaries openedWith newly part overrun freeing newHits fewClear twoHit inspecting numbers row first
+    those slotSize bitmapAt putByte parse judge admit probe allocate free serving opening inspection alike tabulate
+canaries-compute = refl
+
 -- each of the twelve worked examples holds of the definitions
-pub worked-examples : (i : ℕ) → i < length table → getD table i nothing .computed ≡ getD table i nothing .expected
+pub worked-examples : Right table
 worked-examples = each table computes
 
 -- and each of the further ones
-pub further-examples : (i : ℕ) → i < length further → getD further i nothing .computed ≡ getD further i nothing .expected
+pub further-examples : Right further
 further-examples = each further further-computes
+
+-- and each of those of canaries
+pub canary-examples : Right canaries
+canary-examples = each canaries canaries-compute

@@ -13,6 +13,7 @@ use Rattle.rules.specs.View.{viewBytes}
 use Rattle.rules.specs.Open.{setup}
 use Rattle.rules.specs.Serve.{lentWith, lent}
 use Rattle.rules.specs.Call.{Call, call, opening}
+use Rattle.rules.specs.Inspect.{Inspection, inspection}
 use Rattle.vote.specs.Decide.{Decision, Tally, decide, tally, outputAfter}
 
 -- what the definitions give, and what is right
@@ -35,11 +36,11 @@ numbers a = a .number ∷ a .value ∷ []
 abbrev pub heapOf : ℕ → ℕ
 heapOf R = classes * R
 
--- the answer to an opening on metadata of some length, FF hex throughout
+-- the answer to an opening on metadata of some length, FF hex throughout, with zeros as the pattern
 unfoldable pub opened : ℕ → ℕ → ℕ → ℕ → List ℕ
-opened R metadataBytes z w = numbers (opening (heapOf R) (replicate metadataBytes 0xff) (setup z w) .answer)
+opened R metadataBytes z w = numbers (opening (heapOf R) (replicate metadataBytes 0xff) (setup z w 0) .answer)
 
--- metadata with clear bitmaps, counts of 0 and any generator, of an opening or not
+-- metadata with clear bitmaps, counts of 0, zeros as the pattern and any generator, of an opening or not
 unfoldable pub clear : ℕ → ℕ → ℕ → List ℕ
 clear R z w = withGenerator (replicate (metadataLength (layoutOf (heapOf R))) 0) (seeds z w)
 
@@ -82,6 +83,12 @@ unfoldable pub showing : List ℕ → List ℕ → ℕ → List ℕ → List ℕ
 showing heap page R m r =
     let c : Call = call (heapOf R) m r (lentWith [] page) in
     numbers (c .answer) ++ (placeOf (c .view .place) ++ viewBytes (c .view) heap page)
+
+-- the answer to an inspection of a heap with metadata m, and then the list that it was lent
+unfoldable pub inspecting : List ℕ → List ℕ → List ℕ → List ℕ
+inspecting heap m list =
+    let i : Inspection = inspection heap m list in
+    numbers (i .answer) ++ i .list
 
 -- ---- votes
 

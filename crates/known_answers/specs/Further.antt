@@ -9,19 +9,19 @@ use Rattle.known_answers.specs.Calls.{Row, row, heapOf, opened, clear, a
 use Rattle.known_answers.specs.Calls.{copyString, copyPadded, read, answerTo, after, showing, voting}
 use Rattle.known_answers.specs.Table.{copying}
 
--- ---- regions of 4,096 bytes: class 4 has 32 slots of 128 bytes, its bitmap is bytes 176 to 179 and its count byte 24
+-- ---- regions of 4,096 bytes: class 4 has 32 slots of 128 bytes, its bitmap is bytes 180 to 183 and its count byte 24
 
 -- w is one that draws leave as it is, so that each of the 32 tests slot 31, which is set
 unfoldable pub lastSet : List ℕ
-lastSet = set (set (clear 4_096 1 0x464fffff) 179 0x80) 24 1
+lastSet = set (set (clear 4_096 1 0x464fffff) 183 0x80) 24 1
 
 -- each draw is 0, and slots 0, 1 and 3 are set
 unfoldable pub firstSet : List ℕ
-firstSet = set (set (clear 4_096 0 0) 176 0x0b) 24 3
+firstSet = set (set (clear 4_096 0 0) 180 0x0b) 24 3
 
 -- one of the two slots of class 8 is set, and counted in byte 40
 unfoldable pub atCapacity : List ℕ
-atCapacity = set (set (clear 4_096 0x9069 0x4650) 184 0x01) 40 1
+atCapacity = set (set (clear 4_096 0x9069 0x4650) 188 0x01) 40 1
 
 -- the paper's bench run before its last request; a measuring and what was refused leave no trace
 unfoldable pub afterSeven : List ℕ
@@ -35,7 +35,7 @@ letters n = take n (0x41 ∷ 0x42 ∷ 0x43 ∷ 0x44 ∷ 0x45 ∷ 0x46 ∷ 0x47 �
 unfoldable pub kept : ℕ → List ℕ
 kept n = replicate n 0xff
 
--- ---- regions of 1,024 bytes: class 5 has 4 slots (byte 87), class 7 one (byte 89, heap from 7,168), class 8 none
+-- ---- regions of 1,024 bytes: class 5 has 4 slots (byte 91), class 7 one (byte 93, heap from 7,168), class 8 none
 
 -- of the 128 slots of class 0 the first 56 are set, and of the next eight those of a byte; the class counts so many
 unfoldable pub nearHalf : ℕ → ℕ → List ℕ
@@ -45,10 +45,10 @@ nearHalf byte count =
 
 -- bits of slots of class 5, as many as byte 28 counts, and bits beyond its four slots
 unfoldable pub classFive : ℕ → ℕ → List ℕ
-classFive byte count = set (set (clear 1_024 1 1) 87 byte) 28 count
+classFive byte count = set (set (clear 1_024 1 1) 91 byte) 28 count
 
 unfoldable pub onlySlotSet : List ℕ
-onlySlotSet = set (clear 1_024 1 1) 89 0x01
+onlySlotSet = set (clear 1_024 1 1) 93 0x01
 
 -- clear bitmaps, and one byte of the counts
 unfoldable pub counting : ℕ → ℕ → List ℕ
@@ -66,10 +66,11 @@ unfoldable pub further : List Row
 further =
     -- the walk goes round the end; z is that after 32 draws
     row (answerTo 4_096 lastSet (allocate 128)) (0 ∷ 16_384 ∷ [])
-    ∷ row (after 4_096 lastSet (allocate 128)) (set (set (set (clear 4_096 0x57e707d4 0x464fffff) 179 0x80) 176 0x01) 24 2)
+    ∷ row (after 4_096 lastSet (allocate 128))
+    (set (set (set (clear 4_096 0x57e707d4 0x464fffff) 183 0x80) 180 0x01) 24 2)
     -- the walk goes up from the slot tested to the next clear one
     ∷ row (answerTo 4_096 firstSet (allocate 128)) (0 ∷ 16_640 ∷ [])
-    ∷ row (after 4_096 firstSet (allocate 128)) (set (set (clear 4_096 0 0) 176 0x0f) 24 4)
+    ∷ row (after 4_096 firstSet (allocate 128)) (set (set (clear 4_096 0 0) 180 0x0f) 24 4)
     -- refused at capacity, with the generator where it was
     ∷ row (answerTo 4_096 atCapacity (allocate 2_048)) (7 ∷ 0 ∷ [])
     ∷ row (after 4_096 atCapacity (allocate 2_048)) atCapacity
@@ -123,7 +124,7 @@ further =
     -- more, and one with 64 none
     ∷ row (answerTo 4_096 afterSeven (allocate 0)) (0 ∷ 2_680 ∷ [])
     ∷ row (after 4_096 afterSeven (allocate 0))
-    (set (set (set (set (clear 4_096 0x2a58ab6f 0x3b99e34f) 8 1) 24 1) 97 0x80) 176 0x01)
+    (set (set (set (set (clear 4_096 0x2a58ab6f 0x3b99e34f) 8 1) 24 1) 101 0x80) 180 0x01)
     ∷ row (answerTo 4_096 (after 4_096 afterSeven (allocate 0)) (remaining 2_680)) (0 ∷ 8 ∷ [])
     ∷ row (answerTo 1_024 (nearHalf 0x7f 63) (allocate 0)) (0 ∷ 640 ∷ [])
     ∷ row (answerTo 1_024 (nearHalf 0xff 64) (allocate 0)) (7 ∷ 0 ∷ [])
@@ -166,15 +167,15 @@ further =
     ∷ row (answerTo 1_024 (clear 1_024 1 1) (remaining 0 ++ (0 ∷ []))) (4 ∷ 0 ∷ [])
     -- openings, of metadata with every count at its highest: the shortest and the longest heap, half and twice that, no
     -- power of two, metadata a byte off, and seeds of 0
-    ∷ row (opened 1_024 90 1 1) (0 ∷ 0 ∷ [])
-    ∷ row (opened 1_048_576 32_816 1 1) (0 ∷ 0 ∷ [])
-    ∷ row (opened 512 90 1 1) (2 ∷ 0 ∷ [])
-    ∷ row (opened 2_097_152 65_584 1 1) (2 ∷ 0 ∷ [])
-    ∷ row (opened 1_536 90 1 1) (2 ∷ 0 ∷ [])
-    ∷ row (opened 1_024 89 1 1) (3 ∷ 0 ∷ [])
-    ∷ row (opened 1_024 91 0 0) (3 ∷ 0 ∷ [])
-    ∷ row (opened 1_024 90 0 1) (1 ∷ 0 ∷ [])
-    ∷ row (opened 1_024 90 1 0) (1 ∷ 0 ∷ [])
+    ∷ row (opened 1_024 94 1 1) (0 ∷ 0 ∷ [])
+    ∷ row (opened 1_048_576 32_820 1 1) (0 ∷ 0 ∷ [])
+    ∷ row (opened 512 94 1 1) (2 ∷ 0 ∷ [])
+    ∷ row (opened 2_097_152 65_588 1 1) (2 ∷ 0 ∷ [])
+    ∷ row (opened 1_536 94 1 1) (2 ∷ 0 ∷ [])
+    ∷ row (opened 1_024 93 1 1) (3 ∷ 0 ∷ [])
+    ∷ row (opened 1_024 95 0 0) (3 ∷ 0 ∷ [])
+    ∷ row (opened 1_024 94 0 1) (1 ∷ 0 ∷ [])
+    ∷ row (opened 1_024 94 1 0) (1 ∷ 0 ∷ [])
     -- votes: 2 and 17 replicas, blocks of 0 and 4,097 bytes; 3 and 16 replicas, blocks of 4,096 bytes
     ∷ row (voting (replicate 2 0x41) 2 1 1) (11 ∷ 0 ∷ 0 ∷ 0xff ∷ [])
     ∷ row (voting (replicate 17 0x41) 17 1 1) (11 ∷ 0 ∷ 0 ∷ 0xff ∷ [])

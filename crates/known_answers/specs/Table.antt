@@ -11,7 +11,7 @@ use Rattle.rules.specs.Call.{Call, call, opening}
 use Rattle.known_answers.specs.Calls.{Row, row, seeds, numbers, heapOf, allocate, free, copyBytes, copyString}
 use Rattle.known_answers.specs.Calls.{copyPadded, answerTo, after, voting}
 
--- ---- a heap with regions of 4,096 bytes, opened with z = 1 and w = 1
+-- ---- a heap with regions of 4,096 bytes, opened with z = 1, w = 1 and zeros as the pattern
 
 abbrev pub R : ℕ
 R = 4_096
@@ -20,7 +20,7 @@ abbrev pub G : Layout
 G = layoutOf (heapOf R)
 
 unfoldable pub start : List ℕ
-start = opening (heapOf R) (replicate (metadataLength G) 0) (setup 1 1) .metadata
+start = opening (heapOf R) (replicate (metadataLength G) 0) (setup 1 1 0) .metadata
 
 -- with an object of 5 bytes, which lies at 640
 unfoldable pub oneObject : List ℕ
@@ -44,7 +44,7 @@ table =
     row (drawn (next (seeds 1 1)) ∷ drawn (next (next (seeds 1 1))) ∷ drawn (next (next (next (seeds 1 1)))) ∷ [])
     (2_422_818_384 ∷ 1_583_405_312 ∷ 3_876_119_375 ∷ [])
     ∷ row (drawn (next (seeds 5 65_535)) ∷ []) (408_730_032 ∷ [])
-    ∷ row oneObject (set (set (set (set (set (set (replicate 186 0) 0 0x69) 1 0x90) 4 0x50) 5 0x46) 8 0x01) 66 0x01)
+    ∷ row oneObject (set (set (set (set (set (set (replicate 190 0) 0 0x69) 1 0x90) 4 0x50) 5 0x46) 8 0x01) 70 0x01)
     ∷ row (classOf G 8 ∷ classOf G 9 ∷ []) (0 ∷ 1 ∷ [])
     ∷ row (answerTo R (after R start (allocate 2_048)) (allocate 2_048)) (7 ∷ 0 ∷ [])
     ∷ row (copying (copyBytes 643) (1 ∷ 2 ∷ 3 ∷ 4 ∷ 5 ∷ 6 ∷ 7 ∷ 8 ∷ []))

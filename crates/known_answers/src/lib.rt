@@ -1,1 +1,2 @@
-// Worked examples of the rules, as two tables: the twelve that the rules name, and further ones. It has no code.
+// Worked examples of the rules, as three tables: the twelve that the rules name, further ones, and those of
+// canaries. It has no code.

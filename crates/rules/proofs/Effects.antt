@@ -16,13 +16,14 @@ use Rattle.bitmap.specs.Bitmap.{bit}
 use Rattle.bitmap.proofs.Slot.{bit-past}
 use Rattle.bitmap.proofs.Change.{Turned, set-turns, clear-turns}
 use Rattle.writing.specs.Overwrite.{overwrite}
-use Rattle.rules.specs.Metadata.{withGenerator, countOf, withCount, bitmapOf}
+use Rattle.rules.specs.Metadata.{withGenerator, countOf, withCount, canaryOf, bitmapOf}
 use Rattle.rules.specs.Open.{Setup, fresh}
 use Rattle.rules.specs.Outcome.{allocated, freed, metadataAfter}
 use Rattle.rules.specs.Allocate.{allocate}
 use Rattle.rules.specs.Object.{free}
 use Rattle.writing.proofs.Writing.{overwrite-length}
-use Rattle.rules.proofs.Metadata.{generator-length, generator-counts, generator-bitmaps, count-length, count-written, count-other, count-bitmaps}
+use Rattle.rules.proofs.Metadata.{generator-length, generator-counts, generator-canary, generator-bitmaps, count-length, count-written, count-other, count-bitmaps}
+use Rattle.rules.proofs.Metadata.{count-canary, canary-length, canary-counts, canary-bitmaps, bitmap-canary}
 use Rattle.rules.proofs.Metadata.{bitmap-within, bitmap-length, bitmap-written, bitmap-other, bitmap-counts, zeros}
 use Rattle.rules.proofs.Finding.{allocate-finds, free-finds}
 
@@ -57,6 +58,7 @@ pub record Changed (G : Layout) (m m′ : List ℕ) (c i v : ℕ) : Type 0 where
   pub elsewhere : (d j : ℕ) → j < slots G d → ((d ≡ c) × (j ≡ i) → ⊥) → liveBit G m′ d j ≡ liveBit G m d j
   pub count : countOf c m′ + liveBit G m c i ≡ countOf c m + v
   pub others : (d : ℕ) → d < classes → (d ≡ c → ⊥) → countOf d m′ ≡ countOf d m
+  pub canary : canaryOf m′ ≡ canaryOf m
 
 module _ (G : Layout) (m : List ℕ) (valid : Valid G m) where
   -- a bitmap with one slot's bit turned is written back, and the count is stored
@@ -73,6 +75,7 @@ module _ (G : Layout) (m : List ℕ) (valid : Valid G m) where
         ];
         count = rw (count-written m₁ c n (omega (arith, length₁, fits, bitmap-after G classes)) class word) counted;
         others = λ d h f. count-other m₁ c n d f ∙ bitmap-counts G m fits c class b size d h;
+        canary = count-canary m₁ c n class ∙ bitmap-canary G m fits c class b size;
       }
     where
       fits : length m ≡ metadataLength G
@@ -99,6 +102,7 @@ module _ (G : Layout) (m : List ℕ) (valid : Valid G m) where
         elsewhere = λ d j l f. ap (λ (x : List ℕ). bit x j) (generator-bitmaps m′ g G d) ∙ now .elsewhere d j l f;
         count = rw (generator-counts m′ g c) (now .count);
         others = λ d h f. generator-counts m′ g d ∙ now .others d h f;
+        canary = generator-canary m′ g ∙ now .canary;
       }
 
   pub allocate-takes : (size : ℕ) {c i : ℕ} {g : Generator} → allocate G m size ≡ allocated c i g → (c ≡ classOf G size) × Takes G m c i
@@ -135,23 +139,26 @@ module _ (G : Layout) (m : List ℕ) (valid : Valid G m) where
       }
 
 -- opening leaves every count at 0 and every slot clear
-pub fresh-none : (G : Layout) (s : Setup) (c : ℕ) → countOf c (fresh G s) ≡ 0
-fresh-none G s c =
+pub fresh-none : (G : Layout) (s : Setup) (c : ℕ) → c < classes → countOf c (fresh G s) ≡ 0
+fresh-none G s c h =
     let blank : List ℕ = replicate (metadataLength G) 0 in
-    generator-counts blank (s .seeds) c ∙ simp (getD-drop, zeros)
+    canary-counts (withGenerator blank (s .seeds)) (s .canary) c h ∙ generator-counts blank (s .seeds) c ∙ simp (getD-drop, zeros)
 
 pub fresh-valid : (G : Layout) (s : Setup) → G .region ≤ longestRegion → Valid G (fresh G s)
 fresh-valid G s small =
     record {
       small = small;
-      fits = generator-length (replicate (metadataLength G) 0) (s .seeds) ∙ length-replicate (metadataLength G) 0;
-      few = λ c h. omega (arith, fresh-none G s c);
+      fits = canary-length (withGenerator blank (s .seeds)) (s .canary) ∙ generator-length blank (s .seeds) ∙ length-replicate (metadataLength G) 0;
+      few = λ c h. omega (arith, fresh-none G s c h);
     }
+  where
+    blank : List ℕ
+    blank = replicate (metadataLength G) 0
 
 pub fresh-clear : (G : Layout) (s : Setup) (c i : ℕ) → liveBit G (fresh G s) c i ≡ 0
 fresh-clear G s c i =
     let blank : List ℕ = replicate (metadataLength G) 0 in
     elim (decLt (i / 8) (bitmapLength G c)) [
-      | yes h ↦ rw (generator-bitmaps blank (s .seeds) G c, getD-take, getD-drop, zeros, zero-div)
+      | yes h ↦ rw (canary-bitmaps (withGenerator blank (s .seeds)) (s .canary) G c, generator-bitmaps blank (s .seeds) G c, getD-take, getD-drop, zeros, zero-div)
       | no h ↦ bit-past (bitmapOf G c (fresh G s)) i (omega (arith, length-take (bitmapLength G c) (drop (bitmapAt G c) (fresh G s))))
     ]

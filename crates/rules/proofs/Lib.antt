@@ -13,4 +13,6 @@ pub mod Objects
 pub mod Tracking
 pub mod Sane
 pub mod Runs
+pub mod Inspecting
+pub mod Clean
 pub mod Examples

@@ -1,21 +1,27 @@
 -- Parts of the metadata read back after one is written.
-use Prim.Native.Nat.{ℕ, zero, suc, _+_, _^_, _≤_, _<_}
+use Prim.Native.Nat.{ℕ, zero, suc, _+_, _-_, _^_, _≤_, _<_}
 use mathlib.Core.Path.{_≡_, refl, ap, _∙_}
 use mathlib.Core.List.{List}
+use native.Mathlib.Nat.{le-suc, add-sub-cancel-left}
 use native.Mathlib.Decide.{decLt}
 use native.Mathlib.Omega.{arith}
 use lib.ListN.{length, take, drop, getD, replicate, length-take, length-drop}
 use Rattle.mwc.specs.declared.Generator.{Generator}
 use Rattle.geometry.specs.declared.Layout.{Layout}
-use Rattle.geometry.specs.Layout.{classes, header, bitmapAt, bitmapLength, metadataLength}
-use Rattle.geometry.proofs.Geometry.{bitmap-after, bitmap-before}
-use Rattle.words.specs.Word.{wordOf, putWord}
+use Rattle.geometry.specs.declared.Part.{Part}
+use Rattle.geometry.specs.Layout.{classes, canaryAt, header, bitmapAt, bitmapLength, partOf, metadataLength}
+use Rattle.geometry.proofs.Geometry.{bitmap-rising, bitmap-after, bitmap-inside, bitmap-before}
+use Rattle.words.specs.Word.{wordOf, wordAt, putWord}
 use Rattle.words.proofs.Stored.{put-length, put-after, word-same, word-stored, word-before, word-after}
 use Rattle.writing.specs.Overwrite.{overwrite}
 use Rattle.writing.proofs.Parts.{part-here, part-before, part-after}
-use Rattle.rules.specs.Metadata.{withGenerator, countAt, countOf, withCount, bitmapOf}
+use Rattle.rules.specs.Metadata.{withGenerator, countAt, countOf, withCount, canaryOf, withCanary, bitmapOf}
 
 -- ---- the fields
+
+-- a word stored among them keeps the bitmaps
+field-bitmaps : (m : List ℕ) (at n : ℕ) → at + 4 ≤ header → (G : Layout) (d : ℕ) → bitmapOf G d (putWord m at n) ≡ bitmapOf G d m
+field-bitmaps m at n h G d = ap (take (bitmapLength G d)) (put-after m at n (bitmapAt G d) (omega (arith, bitmap-after G d)))
 
 module _ (m : List ℕ) (g : Generator) where
   -- a generator stored keeps the length, and what lies after the fields
@@ -25,14 +31,17 @@ module _ (m : List ℕ) (g : Generator) where
   generator-after : (p : ℕ) → 8 ≤ p → drop p (withGenerator m g) ≡ drop p m
   generator-after p h = put-after (putWord m 0 (g .z)) 4 (g .w) p h ∙ put-after m 0 (g .z) p (omega arith)
 
-  -- so it keeps the counts and the bitmaps
+  -- so it keeps the counts, the canary and the bitmaps
   pub generator-counts : (c : ℕ) → countOf c (withGenerator m g) ≡ countOf c m
   generator-counts c = ap wordOf (generator-after (countAt c) (omega arith))
+
+  pub generator-canary : canaryOf (withGenerator m g) ≡ canaryOf m
+  generator-canary = ap wordOf (generator-after canaryAt (omega arith))
 
   pub generator-bitmaps : (G : Layout) (c : ℕ) → bitmapOf G c (withGenerator m g) ≡ bitmapOf G c m
   generator-bitmaps G c = ap (take (bitmapLength G c)) (generator-after (bitmapAt G c) (omega (arith, bitmap-after G c)))
 
--- a count stored is read back, and leaves those of the other classes and the bitmaps
+-- a count stored is read back, and leaves those of the other classes, the canary and the bitmaps
 module _ (m : List ℕ) (c n : ℕ) where
   pub count-length : length (withCount m c n) ≡ length m
   count-length = put-length m (countAt c) n
@@ -46,9 +55,25 @@ module _ (m : List ℕ) (c n : ℕ) where
     | no h ↦ word-after m (countAt c) n (countAt d) (omega arith)
   ]
 
+  pub count-canary : c < classes → canaryOf (withCount m c n) ≡ canaryOf m
+  count-canary class = word-after m (countAt c) n canaryAt (omega arith)
+
   pub count-bitmaps : (G : Layout) → c < classes → (d : ℕ) → bitmapOf G d (withCount m c n) ≡ bitmapOf G d m
-  count-bitmaps G class d =
-      ap (take (bitmapLength G d)) (put-after m (countAt c) n (bitmapAt G d) (omega (arith, bitmap-after G d)))
+  count-bitmaps G class = field-bitmaps m (countAt c) n (omega arith) G
+
+-- a canary stored is read back, and leaves the counts and the bitmaps
+module _ (m : List ℕ) (canary : ℕ) where
+  pub canary-length : length (withCanary m canary) ≡ length m
+  canary-length = put-length m canaryAt canary
+
+  pub canary-written : header ≤ length m → canary < 2 ^ 32 → canaryOf (withCanary m canary) ≡ canary
+  canary-written room h = word-stored m canaryAt canary (omega arith) h
+
+  pub canary-counts : (c : ℕ) → c < classes → countOf c (withCanary m canary) ≡ countOf c m
+  canary-counts c h = word-before m canaryAt canary (countAt c) (omega arith)
+
+  pub canary-bitmaps : (G : Layout) (d : ℕ) → bitmapOf G d (withCanary m canary) ≡ bitmapOf G d m
+  canary-bitmaps = field-bitmaps m canaryAt canary (omega arith)
 
 -- ---- bitmaps
 
@@ -75,11 +100,29 @@ module _ (G : Layout) (m : List ℕ) (fits : length m ≡ metadataLength G) (c :
               ap (take (bitmapLength G d)) (part-after m (bitmapAt G c) b before (bitmapAt G d) after)
         ]
 
-    -- nor does it touch a count
+    -- nor does it touch a field
+    field-kept : (at : ℕ) → at + 4 ≤ header → wordAt (overwrite m (bitmapAt G c) b) at ≡ wordAt m at
+    field-kept at h =
+        word-same m (overwrite m (bitmapAt G c) b) at
+        (part-before m (bitmapAt G c) b (omega (arith, bitmap-within)) at 4 (omega (arith, bitmap-after G c)))
+
     pub bitmap-counts : (d : ℕ) → d < classes → countOf d (overwrite m (bitmapAt G c) b) ≡ countOf d m
-    bitmap-counts d h =
-        word-same m (overwrite m (bitmapAt G c) b) (countAt d)
-        (part-before m (bitmapAt G c) b (omega (arith, bitmap-within)) (countAt d) 4 (omega (arith, bitmap-after G c)))
+    bitmap-counts d h = field-kept (countAt d) (omega arith)
+
+    pub bitmap-canary : canaryOf (overwrite m (bitmapAt G c) b) ≡ canaryOf m
+    bitmap-canary = field-kept canaryAt (omega arith)
+
+-- the part of the metadata that the layout tells of: it lies in them, and is the bitmap
+module _ (G : Layout) (c : ℕ) {p : Part} (of : p ≡ partOf G c) where
+  pub part-rises : p .start ≤ p .end
+  part-rises = rw of (bitmap-rising G c (suc c) (le-suc c))
+
+  pub part-ends : {n : ℕ} → n ≡ metadataLength G → p .end ≤ n
+  part-ends fits = rw (of, fits) (bitmap-inside G (suc c))
+
+  pub part-bitmap : (m : List ℕ) → take (p .end - p .start) (drop (p .start) m) ≡ bitmapOf G c m
+  unfolding bitmapAt
+  part-bitmap m = rw (of, add-sub-cancel-left (bitmapAt G c) (bitmapLength G c))
 
 -- of zeros every element is 0
 pub zeros : (n i : ℕ) → _≡_ {A = ℕ} (getD (replicate n 0) i 0) 0

@@ -9,20 +9,24 @@ use native.Mathlib.Omega.{arith}
 use lib.ListN.{length}
 use Rattle.mwc.specs.declared.Generator.{Generator}
 use Rattle.geometry.specs.declared.Layout.{Layout}
-use Rattle.geometry.specs.Layout.{classOf, slots, slotStart, locate}
+use Rattle.geometry.specs.Layout.{regionOf, layoutOf, classOf, slots, slotStart, locate}
 use Rattle.request.specs.declared.Kind.{Kind}
 use Rattle.request.specs.declared.Request.{Request}
 use Rattle.request.specs.declared.Request.the-variants.{Allocate, Free, Remaining, Copy, Read}
 use Rattle.request.specs.declared.Parsed.{Parsed}
 use Rattle.request.specs.declared.Parsed.the-variants.{Whole, Malformed}
 use Rattle.answer.specs.declared.Refusal.{Refusal}
+use Rattle.rules.specs.declared.Judged.the-variants.{Laid}
+use Rattle.rules.specs.Judge.{admit}
 use Rattle.rules.specs.Outcome.{Outcome, refused, allocated, freed, told, shown, reply, metadataAfter}
 use Rattle.rules.specs.Allocate.{taken, allocate}
 use Rattle.rules.specs.Object.{space, free, remaining, writes, copy}
 use Rattle.rules.specs.Read.{viewIn, read}
 use Rattle.rules.specs.Serve.{Lent, act}
+use Rattle.rules.specs.Call.{calledBy, serving}
 use Rattle.rules.specs.Run.{Step, Event}
 use Rattle.rules.specs.Pair.{Measures}
+use Rattle.rules.proofs.Serving.{right-lengths, none-over, admit-laid, serving-acts}
 use Rattle.rules.proofs.Effects.{liveBit, Valid, Takes, Ends, Changed, allocate-takes, allocate-changes, free-ends, free-changes, changed-valid}
 
 -- ---- a request's outcome
@@ -145,3 +149,13 @@ module _ (G : Layout) (m m′ : List ℕ) where
     | yes e ↦ let v≡w : v ≡ w = cc in cc
     | no e ↦ absurd (moved h (k .2 .elsewhere c i (h .0) e))
   ]
+
+-- ---- a request on valid metadata
+
+module _ (n : ℕ) (region : regionOf n ≡ 0 → ⊥) (m : List ℕ) (valid : Valid (layoutOf n) m) where
+  -- it is admitted, and so acted on
+  pub valid-admits : admit n m ≡ Laid (layoutOf n)
+  valid-admits = admit-laid n m (right-lengths n (length m) region (valid .fits)) (none-over (layoutOf n) m (valid .few))
+
+  pub valid-acts : (beside : Lent) (p : Parsed) → let G = layoutOf n in serving n m beside p ≡ calledBy G m (act G m beside p)
+  valid-acts beside p = serving-acts n m beside p valid-admits

@@ -17,8 +17,8 @@ use Rattle.rules.specs.Run.{Entry, HeapsOfLength, Event, stepOf, trace, 
 use Rattle.rules.specs.Pair.{Pair, PairOff}
 use Rattle.rules.specs.Live.{Object, objectsAfter, live, Sound, Counted, Never}
 use Rattle.rules.proofs.Effects.{Valid, fresh-valid}
-use Rattle.rules.proofs.Serving.{right-lengths, none-over, admit-laid, serving-acts, has-layout, opened-fresh}
-use Rattle.rules.proofs.Results.{result, made, result-valid}
+use Rattle.rules.proofs.Serving.{has-layout, opened-fresh}
+use Rattle.rules.proofs.Results.{result, made, result-valid, valid-acts}
 use Rattle.rules.proofs.Pairing.{pair-steps, steps-pair}
 use Rattle.rules.proofs.Tracking.{Tracks, tracks-sound, tracks-counted, fresh-tracks, result-tracks}
 use Rattle.rules.proofs.Sane.{act-sane}
@@ -33,9 +33,7 @@ module _ (n : ℕ) (region : regionOf n ≡ 0 → ⊥) where
   module _ (m : List ℕ) (valid : Valid (layoutOf n) m) where
     acts : (e : Entry) → let G = layoutOf n in
         call n m (e .request) (e .lent) ≡ calledBy G m (act G m (e .lent) (parse (e .request)))
-    acts e =
-        let laid = right-lengths n (length m) region (valid .fits) in
-        serving-acts n m (e .lent) (parse (e .request)) (admit-laid n m laid (none-over (layoutOf n) m (valid .few)))
+    acts e = valid-acts n region m valid (e .lent) (parse (e .request))
 
     step-valid : (e : Entry) → length (e .heap) ≡ n → Valid (layoutOf n) (stepOf m e .metadata)
     step-valid e h =

@@ -1,6 +1,6 @@
 -- Lengths and counts that are judged right, and what serving comes to then.
 use Prim.Native.Nat.{ℕ, _/_, _≤_, _<_}
-use mathlib.Core.Path.{_≡_, refl, sym, subst, _∙_}
+use mathlib.Core.Path.{_≡_, refl, sym, ap, subst, _∙_}
 use mathlib.Core.Bool.{Bool, true, false}
 use mathlib.Core.List.{List}
 use native.Mathlib.Decide.{ℕ-discrete, decLt}
@@ -24,7 +24,7 @@ use Rattle.rules.specs.Metadata.{countOf}
 use Rattle.rules.specs.Judge.{judge, Fits, isOver, anyOver, admit}
 use Rattle.rules.specs.Open.{Setup, fresh}
 use Rattle.rules.specs.Serve.{Lent, act}
-use Rattle.rules.specs.Call.{calledBy, unserved, serving, openedBy, opening}
+use Rattle.rules.specs.Call.{Call, calledBy, unserved, serving, openedBy, opening}
 
 unfit-laid : {r : Refusal} {G : Layout} → Unfit r ≡ Laid G → ⊥
 unfit-laid e = let z : _≡_ {A = ℕ} 0 1 = cc in omega arith
@@ -137,14 +137,16 @@ module _ (n : ℕ) (m : List ℕ) (s : Setup) where
     pub has-layout : regionOf n ≡ 0 → ⊥
     has-layout z = refusal-number HeapLength (rw (opening-unfit (no-heap n (length m) z)) at e)
 
-    -- and left fresh metadata
-    pub opened-fresh : opening n m s .metadata ≡ fresh (layoutOf n) s
-    opened-fresh = elim (ℕ-discrete (length m) (metadataLength (layoutOf n))) [
+    -- and opened the heap by it, and so left fresh metadata
+    pub opened-by : opening n m s ≡ openedBy (layoutOf n) s
+    opened-by = elim (ℕ-discrete (length m) (metadataLength (layoutOf n))) [
       | yes p ↦ seeded (isUnusable (s .seeds)) refl (right-lengths n (length m) has-layout p)
       | no p ↦ absurd (refusal-number MetadataLength (rw (opening-unfit (other-length n (length m) has-layout p)) at e))
     ]
       where
-        seeded : (t : Bool) → isUnusable (s .seeds) ≡ t → judge n (length m) ≡ Laid (layoutOf n)
-            → opening n m s .metadata ≡ fresh (layoutOf n) s
+        seeded : (t : Bool) → isUnusable (s .seeds) ≡ t → judge n (length m) ≡ Laid (layoutOf n) → opening n m s ≡ openedBy (layoutOf n) s
         seeded true q laid = absurd (refusal-number ZeroSeed (rw (opening-unusable laid q) at e))
-        seeded false q laid = rw (opening-served laid q)
+        seeded false q laid = opening-served laid q
+
+    pub opened-fresh : opening n m s .metadata ≡ fresh (layoutOf n) s
+    opened-fresh = ap (λ (c : Call). c .metadata) opened-by

@@ -78,7 +78,7 @@ fresh-tracks G s =
       are-slots = tt;
       bits = λ c i h. sym (fresh-clear G s c i);
       bits-set = λ c. count-none (bitmapOf G c (fresh G s)) (slots G c) (fresh-clear G s c);
-      counted = λ c h. fresh-none G s c;
+      counted = λ c h. fresh-none G s c h;
       half = λ c. omega arith;
     }
 

@@ -16,6 +16,7 @@ use Rattle.answer.specs.Checks.{_when_, checked}
 use Rattle.rules.specs.declared.View.{View}
 use Rattle.rules.specs.Judge.{judge, onceLaid, admit}
 use Rattle.rules.specs.Open.{Setup, fresh}
+use Rattle.rules.specs.Canary.{filledHeap}
 use Rattle.rules.specs.View.{noView}
 use Rattle.rules.specs.Outcome.{Outcome, reply, metadataAfter, heapAfter, viewOf}
 use Rattle.rules.specs.Serve.{Lent, lentWith, lent, act}
@@ -49,9 +50,9 @@ call heapBytes m request beside = serving heapBytes m beside (parse request)
 abbrev pub reading : ℕ → List ℕ → ℕ → ℕ → List ℕ → Call
 reading heapBytes m offset count page = serving heapBytes m (lentWith [] page) (Whole (Read offset count))
 
--- an opening: fresh metadata, and the heap's bytes as they are
+-- an opening: fresh metadata, and a canary in every slot
 abbrev pub openedBy : Layout → Setup → Call
-openedBy G s = record { answer = served 0; metadata = fresh G s; heap = λ h. h; view = noView }
+openedBy G s = record { answer = served 0; metadata = fresh G s; heap = λ h. filledHeap G (s .canary) h; view = noView }
 
 unfoldable pub opening : ℕ → List ℕ → Setup → Call
 opening heapBytes m s =

@@ -1,6 +1,7 @@
 pub mod Metadata
 pub mod Judge
 pub mod Open
+pub mod Canary
 pub mod View
 pub mod Outcome
 pub mod Allocate
@@ -11,3 +12,4 @@ pub mod Call
 pub mod Run
 pub mod Pair
 pub mod Live
+pub mod Inspect

@@ -1,13 +1,13 @@
--- The metadata (the paper's book): the generator's two halves, each class's live count, then the bitmaps.
+-- The metadata (the paper's book): the generator's two halves, each class's live count, the canary, then the bitmaps.
 use Prim.Native.Nat.{ℕ, _+_, _*_}
 use mathlib.Core.List.{List}
 use lib.ListN.{take, drop}
 use Rattle.words.specs.Word.{wordAt, putWord}
 use Rattle.mwc.specs.declared.Generator.{Generator}
 use Rattle.geometry.specs.declared.Layout.{Layout}
-use Rattle.geometry.specs.Layout.{bitmapAt, bitmapLength}
+use Rattle.geometry.specs.Layout.{countsAt, canaryAt, bitmapAt, bitmapLength}
 
--- the fields before the bitmaps: z is the word at 0, w that at 4, and from 8 on stand the live counts, class 0 first
+-- z is the word at 0 and w that at 4; the live counts stand in the order of their classes
 abbrev pub generatorOf : List ℕ → Generator
 generatorOf m = record { z = wordAt m 0; w = wordAt m 4 }
 
@@ -15,13 +15,19 @@ abbrev pub withGenerator : List ℕ → Generator → List ℕ
 withGenerator m g = putWord (putWord m 0 (g .z)) 4 (g .w)
 
 abbrev pub countAt : ℕ → ℕ
-countAt c = 4 * (2 + c)
+countAt c = countsAt + 4 * c
 
 abbrev pub countOf : ℕ → List ℕ → ℕ
 countOf c m = wordAt m (countAt c)
 
 abbrev pub withCount : List ℕ → ℕ → ℕ → List ℕ
 withCount m c count = putWord m (countAt c) count
+
+abbrev pub canaryOf : List ℕ → ℕ
+canaryOf m = wordAt m canaryAt
+
+abbrev pub withCanary : List ℕ → ℕ → List ℕ
+withCanary m canary = putWord m canaryAt canary
 
 -- the part that holds a class's bitmap
 abbrev pub bitmapOf : Layout → ℕ → List ℕ → List ℕ

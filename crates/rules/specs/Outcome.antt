@@ -10,7 +10,8 @@ use Rattle.answer.specs.declared.Refusal.{Refusal}
 use Rattle.answer.specs.Reply.{Reply, served, refusedBy}
 use Rattle.writing.specs.Overwrite.{overwrite}
 use Rattle.rules.specs.declared.View.{View}
-use Rattle.rules.specs.Metadata.{withGenerator, countOf, withCount, bitmapOf}
+use Rattle.rules.specs.Metadata.{withGenerator, countOf, withCount, canaryOf, bitmapOf}
+use Rattle.rules.specs.Canary.{filled}
 use Rattle.rules.specs.View.{noView}
 
 pub data Outcome : Type 0 where
@@ -45,7 +46,7 @@ metadataAfter G m (shown v) = m
 abbrev pub heapAfter : Layout → List ℕ → List ℕ → Outcome → List ℕ
 heapAfter G m h (refused r) = h
 heapAfter G m h (allocated c i g) = h
-heapAfter G m h (freed c i) = h
+heapAfter G m h (freed c i) = overwrite h (slotStart G c i) (filled (canaryOf m) (slotSize G c))
 heapAfter G m h (told value offset bytes) = overwrite h offset bytes
 heapAfter G m h (shown v) = h
 

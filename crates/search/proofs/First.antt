@@ -25,6 +25,14 @@ module _ (test : ℕ → Bool) where
       fuel : n - i ≡ suc (n - suc i)
       fuel = omega arith
 
+  -- nor do more of them change what is found
+  pub first-skip : {i j n : ℕ} → i ≤ j → j ≤ n → ((x : ℕ) → i ≤ x → x < j → test x ≡ false) → first test i (n - i) ≡ first test j (n - j)
+  first-skip {i} {j} {n} l m h = go (j - i) i (omega arith) (λ x a b. h x a b)
+    where
+      go : (k i : ℕ) → i + k ≡ j → ((x : ℕ) → i ≤ x → x < j → test x ≡ false) → first test i (n - i) ≡ first test j (n - j)
+      go zero i e h = let same : i ≡ j = omega arith in rw same
+      go (suc k) i e h = first-past (omega arith) (h i (omega arith) (omega arith)) ∙ go k (i + 1) (omega arith) (λ x a b. h x (omega arith) b)
+
   -- past the end nothing is looked at
   pub first-none : {i n : ℕ} → n ≤ i → first test i (n - i) ≡ i
   unfolding first
@@ -64,6 +72,30 @@ module _ (test : ℕ → Bool) where
       go true e at rest = let z : j < i = rw (e, first) at h in absurd (omega arith)
       go false e (yes q) rest = rw (← q) e
       go false e (no q) rest = rest (omega arith) (rw (e, first) at h)
+
+  -- so it is no later than one that passes
+  pub first-le : (i k j : ℕ) → i ≤ j → test j ≡ true → first test i k ≤ j
+  first-le i k j l e = elim (decLt j (first test i k)) [
+    | yes h ↦ absurd (true≢false (sym e ∙ first-before i k j l h))
+    | no h ↦ omega arith
+  ]
+
+  -- and no earlier than numbers that do not
+  pub first-ge : (i k n : ℕ) → n ≤ i + k → ((j : ℕ) → i ≤ j → j < n → test j ≡ false) → n ≤ first test i k
+  first-ge i k n l none = elim (decLt (first test i k) n) [
+    | yes h ↦ absurd (true≢false (sym (first-passes i k (omega arith)) ∙ none (first test i k) (first-range i k .0) h))
+    | no h ↦ omega arith
+  ]
+
+  -- a search that ends sooner: what it finds, or where it finds nothing, the rest
+  pub first-early : {i e n : ℕ} → i ≤ e → e ≤ n → first test i (e - i) < e → first test i (n - i) ≡ first test i (e - i)
+  first-early {i} {e} {n} l m h =
+      let x : ℕ = first test i (e - i) in
+      first-skip (first-range i (e - i) .0) (omega arith) (λ j a b. first-before i (e - i) j a b)
+      ∙ first-found (omega arith) (first-passes i (e - i) (omega arith))
+
+  pub first-later : {i e n : ℕ} → i ≤ e → e ≤ n → e ≤ first test i (e - i) → first test i (n - i) ≡ first test e (n - e)
+  first-later {i} {e} l m h = first-skip l m (λ j a b. first-before i (e - i) j a (omega arith))
 
   -- it passes also at the end, if what stands there does
   pub first-holds : (i k : ℕ) → test (i + k) ≡ true → test (first test i k) ≡ true

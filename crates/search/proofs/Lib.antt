@@ -1,2 +1,4 @@
 pub mod First
+pub mod Those
+pub mod Blocks
 pub mod Tabulate

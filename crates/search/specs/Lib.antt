@@ -1,2 +1,3 @@
 pub mod First
+pub mod Those
 pub mod Tabulate

@@ -1,28 +1,23 @@
 -- Bytes compared by strides, and from there on where they begin alike; how many strides all blocks share.
 use Prim.Native.Nat.{ℕ, zero, suc, _+_, _*_, _-_, _/_, _≤_, _<_}
-use native.Mathlib.Nat.{div-mul-le-self, div-add-mod', mod-lt, zero-add, zero-mul, suc-mul, suc-add, add-mul}
+use native.Mathlib.Nat.{div-mul-le-self, div-add-mod', mod-lt, zero-mul, suc-mul, add-mul}
 use native.Mathlib.Nat.{mul-le-mul-right}
 use native.Mathlib.Decide.{ℕ-discrete}
 use native.Mathlib.Omega.{arith}
 use mathlib.Core.Path.{_≡_, refl, sym, ap, ap₂, _∙_}
 use mathlib.Core.Bool.{Bool, true, false, false≢true, not, _&&_, _||_, and-self}
-use mathlib.Core.List.{List, [], _∷_, _++_}
+use mathlib.Core.List.{List, _++_}
 use lib.ListN.{take, drop, take-append-drop}
-use lib.Seq.{take-nil, take-take, take-add, drop-drop}
+use lib.Seq.{take-take, take-add, drop-drop}
 use borrow.Author.Tests.{not-false}
 use Rattle.search.specs.First.{first}
 use Rattle.search.proofs.First.{first-range, first-passes, first-before}
+use Rattle.writing.proofs.Parts.{drop-take}
 use Rattle.alike.specs.Alike.{alike}
 use Rattle.alike.proofs.Equal.{alike-self, alike-equal, same-told}
 use Rattle.vote.specs.Groups.{bytesAt, differ, matching, follows, strays, shared, lowestFrom, lowest}
 use Rattle.vote.proofs.Blocks.{block-within, neither}
 use Rattle.vote.proofs.Search.{first-is, first-agree, first-either}
-
--- what follows the first n of some
-drop-take : (n m : ℕ) (xs : List ℕ) → drop n (take (n + m) xs) ≡ take m (drop n xs)
-drop-take zero m xs = rw zero-add
-drop-take (suc n) m [] = rw (take-nil m, take-nil (suc n + m))
-drop-take (suc n) m (x ∷ xs) = rw suc-add (drop-take n m xs)
 
 -- lists that begin alike are alike where the rest is
 alike-rest : (n : ℕ) (xs ys : List ℕ) → take n xs ≡ take n ys → alike (drop n xs) (drop n ys) ≡ alike xs ys

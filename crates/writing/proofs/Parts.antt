@@ -1,11 +1,18 @@
 -- Parts read back after one is written over: the part written, and those before and after it.
-use Prim.Native.Nat.{ℕ, _+_, _-_, _≤_}
+use Prim.Native.Nat.{ℕ, zero, suc, _+_, _-_, _≤_, _<_}
 use mathlib.Core.Path.{_≡_, sym, ap, _∙_}
-use mathlib.Core.List.{List, _++_, append-assoc}
+use mathlib.Core.List.{List, [], _∷_, _++_, append-assoc}
+use native.Mathlib.Nat.{zero-add, suc-add}
 use native.Mathlib.Omega.{arith}
-use lib.ListN.{length, take, drop, length-drop, take-append-drop}
-use lib.Seq.{length-take-le, take-at, take-take, drop-at, take-append-le, drop-append-le, drop-append-seam, drop-drop}
+use lib.ListN.{length, take, drop, getD, length-drop, take-append-drop, List·getD-append}
+use lib.Seq.{take-nil, length-take-le, take-at, take-take, drop-at, take-append-le, drop-append-le, drop-append-seam, drop-drop, getD-append-add, getD-take, getD-drop}
 use Rattle.writing.specs.Overwrite.{overwrite}
+
+-- a part of a front is a part of the whole
+pub drop-take : (n m : ℕ) (xs : List ℕ) → drop n (take (n + m) xs) ≡ take m (drop n xs)
+drop-take zero m xs = rw zero-add
+drop-take (suc n) m [] = rw (take-nil m, take-nil (suc n + m))
+drop-take (suc n) m (x ∷ xs) = rw suc-add (drop-take n m xs)
 
 module _ (xs : List ℕ) (a : ℕ) (ys : List ℕ) (h : a ≤ length xs) where
   -- what lies from the part written on
@@ -44,3 +51,23 @@ front-written k xs a ys h l =
     (sym (drop-append-le (a + length ys) (take k xs) (drop k xs) (omega arith)) ∙ ap (drop (a + length ys)) (take-append-drop k xs)) in
     append-assoc (take a (take k xs)) _ (drop k xs)
     ∙ rw (append-assoc ys (drop (length ys) (drop a (take k xs))) (drop k xs), kept, take-take a k xs (omega arith))
+
+-- an element afterwards: of the part written, or as it was
+module _ (xs : List ℕ) (a : ℕ) (ys : List ℕ) (h : a + length ys ≤ length xs) (x d : ℕ) where
+  pub at-written : a ≤ x → x < a + length ys → getD (overwrite xs a ys) x d ≡ getD ys (x - a) d
+  at-written l u =
+      let size : length (take a xs) ≡ a = length-take-le a xs (omega arith) in
+      let place : length (take a xs) + (x - a) ≡ x = omega arith in
+      ap (λ (i : ℕ). getD (overwrite xs a ys) i d) (sym place)
+      ∙ getD-append-add (take a xs) (ys ++ drop (length ys) (drop a xs)) (x - a) d
+      ∙ List·getD-append ys (drop (length ys) (drop a xs)) d (x - a) (omega arith)
+
+  pub at-before : x < a → getD (overwrite xs a ys) x d ≡ getD xs x d
+  at-before l =
+      let size : length (take a xs) ≡ a = length-take-le a xs (omega arith) in
+      List·getD-append (take a xs) (ys ++ drop (length ys) (drop a xs)) d x (omega arith) ∙ getD-take a xs x d l
+
+  pub at-after : a + length ys ≤ x → getD (overwrite xs a ys) x d ≡ getD xs x d
+  at-after l =
+      let place : x + 0 ≡ x = omega arith in
+      rw (← place) (sym (getD-drop x (overwrite xs a ys) 0 d) ∙ ap (λ (zs : List ℕ). getD zs 0 d) (part-after xs a ys (omega arith) x l) ∙ getD-drop x xs 0 d)

@@ -1,10 +1,10 @@
-//! By the second implementation, what the program `conformance` prints for the cases on standard input: a header of five words (the heap's
-//! length, z, w, the source's length, the number of requests) and then the source and the requests of each.
+//! By the second implementation, what the program `conformance` prints for the cases on standard input: a header of six words (the heap's
+//! length, z, w, the pattern, the source's length, the number of requests) and then the source and the requests of each.
 
 use poheldu_tests::reference;
 use std::io::{self, Read, Write};
 
-const HEADER: usize = 20;
+const HEADER: usize = 24;
 const HEAP: usize = 98_304;
 const SOURCE: usize = 8_192;
 const REQUESTS: usize = 1024;
@@ -23,7 +23,7 @@ fn take<'a>(input: &mut &'a [u8], most: usize) -> &'a [u8] {
 /// Metadata for a heap of this length; that of no heap is as long as its fields.
 fn metadata_length(heap_len: usize) -> usize {
     match reference::metadata_length(heap_len) {
-        0 => 56,
+        0 => 60,
         len => len,
     }
 }
@@ -45,10 +45,11 @@ fn main() -> io::Result<()> {
         let header = take(&mut input, HEADER);
         let heap = &mut heap[..HEAP.min(word(header, 0) as usize)];
         let metadata = &mut metadata[..metadata_length(heap.len())];
-        let opened = reference::open(heap, metadata, word(header, 4), word(header, 8));
+        let [z, w, pattern] = [4, 8, 12].map(|at| word(header, at));
+        let opened = reference::open(heap, metadata, z, w, pattern);
         writeln!(out, "open {} {}", opened.number, opened.value)?;
-        let source = take(&mut input, SOURCE.min(word(header, 12) as usize));
-        let requests = take(&mut input, 16 * REQUESTS.min(word(header, 16) as usize));
+        let source = take(&mut input, SOURCE.min(word(header, 16) as usize));
+        let requests = take(&mut input, 16 * REQUESTS.min(word(header, 20) as usize));
         for (i, request) in requests.chunks(16).enumerate() {
             let answer = reference::serve(heap, metadata, request, source, &[]);
             writeln!(out, "{} {} {}", i + 1, answer.number, answer.value)?;

@@ -4,7 +4,10 @@
 //! Arguments: --calls N (default 1,000,000), --seed N (default: from the clock),
 //! --progress (a line on standard error at each twentieth of the calls).
 
-use poheldu_tests::compare::{Lent, Tester, Twin, CORRUPT_KINDS, READ_KINDS, STRING_KINDS};
+use poheldu_tests::compare::{self, Lent, Tester, Twin};
+use poheldu_tests::compare::{
+    CORRUPT_KINDS, INSPECTION_KINDS, LISTED_KINDS, READ_KINDS, STRING_KINDS,
+};
 use poheldu_tests::inputs::{self, Shape, CLASSES, STUCK_DRAW, STUCK_W, STUCK_Z};
 use poheldu_tests::random::Random;
 use poheldu_tests::reference::{Answer, Part};
@@ -25,8 +28,16 @@ const CORRUPT: Answer = Answer {
     number: 13,
     value: 0,
 };
+/// A list too short.
+const TOO_SHORT: Answer = Answer {
+    number: 14,
+    value: 0,
+};
 /// The page of calls that do not choose one.
 const PAGE: &[u8] = b"stand-in page";
+/// The pattern of openings that do not choose one: its bytes are all different.
+const PATTERN: u32 = u32::from_le_bytes(PATTERN_BYTES);
+const PATTERN_BYTES: [u8; 4] = [0xA9, 0xC7, 0xE3, 0xB5];
 
 fn main() {
     let Arguments {
@@ -46,6 +57,9 @@ fn main() {
         counts_above_half(&mut tester, shape);
         counts_of_half(&mut tester, shape);
         counts_of_nothing(&mut tester, shape);
+        painted_slots(&mut tester, shape);
+        inspected_edges(&mut tester, shape);
+        inspected_slots(&mut tester, shape);
         traps(&mut tester, &mut rng, shape);
     }
     most_slots(&mut tester, &mut rng);
@@ -125,21 +139,19 @@ fn report(tester: &Tester) {
         tester.walks, tester.wraps
     );
     println!(
-        "NULL for heap, metadata, request, source, page, blocks, output: {:?}",
+        "NULL for heap, metadata, request, source, page, blocks, output, list: {:?}",
         tester.nulls
     );
-    for (at, kind) in READ_KINDS.iter().enumerate() {
-        println!(
-            "reads {kind}: {} by the call, {} as requests",
-            tester.read_calls[at], tester.read_requests[at]
-        );
-    }
-    for (at, kind) in STRING_KINDS.iter().enumerate() {
-        println!("strings {kind}: {}", tester.strings[at]);
-    }
-    for (at, kind) in CORRUPT_KINDS.iter().enumerate() {
-        println!("refused with 13 {kind}: {}", tester.corrupt[at]);
-    }
+    report_kinds("reads by the call", &READ_KINDS, &tester.read_calls);
+    report_kinds("reads as requests", &READ_KINDS, &tester.read_requests);
+    report_kinds("strings", &STRING_KINDS, &tester.strings);
+    report_kinds("refused with 13", &CORRUPT_KINDS, &tester.corrupt);
+    report_kinds("inspections", &INSPECTION_KINDS, &tester.inspections);
+    report_kinds("slots listed", &LISTED_KINDS, &tester.listed);
+    println!(
+        "inspections where nobody else wrote: {}, made again with other bytes elsewhere: {}",
+        tester.clean, tester.changed
+    );
     println!(
         "malformed, operation 7 and a count for operation 4: {:?}",
         tester.malformed
@@ -155,8 +167,15 @@ fn report(tester: &Tester) {
     );
 }
 
-/// Every refusal number, operation, walk, NULL, kind of read, of string and of
-/// refusal with 13, and size at an edge has to occur.
+fn report_kinds(what: &str, kinds: &[&str], counts: &[u64]) {
+    for (kind, count) in kinds.iter().zip(counts) {
+        println!("{what} {kind}: {count}");
+    }
+}
+
+/// Every refusal number, operation, walk, NULL, kind of read, of string, of
+/// refusal with 13, of inspection and of listed slot, and size at an edge has to
+/// occur.
 fn require_coverage(tester: &Tester) {
     let seen = [
         &tester.counts[..],
@@ -168,6 +187,9 @@ fn require_coverage(tester: &Tester) {
         &tester.edge_sizes,
         &tester.strings,
         &tester.corrupt,
+        &tester.inspections,
+        &tester.listed,
+        &[tester.clean, tester.changed],
         &[tester.walks, tester.wraps],
     ];
     if seen.concat().contains(&0) {
@@ -183,6 +205,10 @@ struct Session {
     guard: usize,
     /// The metadata are what a served opening and requests since have left.
     opened: bool,
+    /// And so are the bytes of the slots, but for those of live ones.
+    clean: bool,
+    /// Others write to the heap now and then.
+    others_write: bool,
 }
 
 impl Session {
@@ -193,18 +219,25 @@ impl Session {
             metadata: Twin::new(&vec![0xEE; shape.metadata_len()], guard),
             guard,
             opened: false,
+            clean: false,
+            others_write: false,
         }
     }
 
-    /// Heap bytes that count up, so that a copy to a wrong place shows.
+    /// Heap bytes that count up: no slot holds a pattern.
     fn counting(shape: Shape) -> Session {
-        let heap: Vec<u8> = (0..shape.heap_len()).map(|at| at as u8).collect();
-        Session::new(shape, &heap, 0)
+        Session::new(shape, &counting_bytes(shape.heap_len()), 0)
     }
 
+    /// Opens with the pattern of calls that do not choose one.
     fn open(&mut self, tester: &mut Tester, z: u32, w: u32) -> Answer {
-        let answer = tester.open(&mut self.heap, &mut self.metadata, z, w);
+        self.open_with(tester, z, w, PATTERN)
+    }
+
+    fn open_with(&mut self, tester: &mut Tester, z: u32, w: u32, pattern: u32) -> Answer {
+        let answer = tester.open(&mut self.heap, &mut self.metadata, z, w, pattern);
         self.opened |= answer.number == 0;
+        self.clean |= answer.number == 0;
         answer
     }
 
@@ -212,6 +245,13 @@ impl Session {
     fn replace_metadata(&mut self, metadata: &[u8]) {
         self.metadata.replace(metadata);
         self.opened = false;
+        self.clean = false;
+    }
+
+    /// Bytes that neither opening nor a request wrote.
+    fn scribble(&mut self, at: usize, bytes: &[u8]) {
+        self.heap.write(at, bytes);
+        self.clean = false;
     }
 
     fn serve(&mut self, tester: &mut Tester, request: &[u8], source: &[u8], page: &[u8]) -> Answer {
@@ -231,6 +271,38 @@ impl Session {
         let part = tester.read(&mut self.heap, &mut self.metadata, offset, count, &mut page);
         self.expect_no_corruption(part.number);
         part
+    }
+
+    /// What an inspection answers, and what it lists. Entries past that, and all
+    /// where it is refused, are kept.
+    fn inspect(&mut self, tester: &mut Tester, list_len: usize) -> (Answer, Vec<u32>) {
+        let before: Vec<u32> = (0..list_len as u32).map(|at| !at).collect();
+        let mut list = Twin::new(&before, self.guard);
+        let answer = tester.inspect(&mut self.heap, &mut self.metadata, &mut list);
+        let (listed, kept) = list.items().split_at(answer.value as usize);
+        expect(kept == &before[listed.len()..], "entries past the list");
+        expect(listed.is_sorted_by(|a, b| a < b), "a list that rises");
+        self.expect_no_corruption(answer.number);
+        expect(
+            !self.clean || answer.value == 0 && answer.number != TOO_SHORT.number,
+            "a slot listed that nobody wrote to",
+        );
+        tester.clean += u64::from(self.clean && answer.number == 0);
+        (answer, listed.to_vec())
+    }
+
+    /// Two inspections, between which all bytes of live slots and all outside
+    /// slots change: they answer and list the same.
+    fn inspect_changed(&mut self, tester: &mut Tester, list_len: usize) {
+        let first = self.inspect(tester, list_len);
+        let mut heap = self.heap.bytes().to_vec();
+        inputs::change_unseen(self.shape, self.metadata.bytes(), &mut heap);
+        self.heap.replace(&heap);
+        expect(
+            self.inspect(tester, list_len) == first,
+            "an inspection of other bytes in live slots and outside slots",
+        );
+        tester.changed += u64::from(!first.1.is_empty());
     }
 
     fn expect_no_corruption(&self, number: u32) {
@@ -267,6 +339,10 @@ impl Session {
     }
 }
 
+fn counting_bytes(len: usize) -> Vec<u8> {
+    (0..len).map(|at| at as u8).collect()
+}
+
 // --- Fixed cases ---
 
 /// Calls whose answers the document gives.
@@ -280,6 +356,9 @@ fn document_cases(tester: &mut Tester) {
     reads(tester);
     refused_reads(tester);
     counts_among_checks(tester);
+    painting_frees(tester);
+    inspections(tester);
+    inspections_among_checks(tester);
     for (blocks, number, mask) in [
         (&b"ABA"[..], 0, 5),
         (b"BAAB", 0, 9),
@@ -305,7 +384,7 @@ fn expect(holds: bool, what: &str) {
 }
 
 fn metadata_lengths(tester: &mut Tester) {
-    for (region, length) in [(1_024, 90), (4_096, 186), (1_048_576, 32_816)] {
+    for (region, length) in [(1_024, 94), (4_096, 190), (1_048_576, 32_820)] {
         expect(
             tester.metadata_length(12 * region) == length,
             "a metadata length",
@@ -314,15 +393,16 @@ fn metadata_lengths(tester: &mut Tester) {
 }
 
 /// The metadata after the first of the eight lines: z and w have moved, class 0
-/// has a live object by its count and by its bit.
+/// has a live object by its count and by its bit, the pattern is stored.
 fn first_line(tester: &mut Tester) {
     let mut session = Session::counting(Shape { region: 4_096 });
     session.open(tester, 1, 1);
     session.run(tester, ALLOCATE, 5);
-    let mut expected = [0; 186];
-    for (at, byte) in [(0, 0x69), (1, 0x90), (4, 0x50), (5, 0x46), (8, 1), (66, 1)] {
+    let mut expected = [0; 190];
+    for (at, byte) in [(0, 0x69), (1, 0x90), (4, 0x50), (5, 0x46), (8, 1), (70, 1)] {
         expected[at] = byte;
     }
+    expected[56..60].copy_from_slice(&PATTERN_BYTES);
     expect(
         session.metadata.bytes() == expected,
         "the metadata after the first line",
@@ -393,7 +473,7 @@ fn strings(tester: &mut Tester) {
     ] {
         let shape = Shape { region: 4_096 };
         let mut session = Session::new(shape, &vec![b'?'; shape.heap_len()], 16);
-        session.open(tester, 1, 1);
+        session.open_with(tester, 1, 1, u32::from_le_bytes(*b"????"));
         session.run(tester, ALLOCATE, 5);
         let request = inputs::request(operation, offset, count);
         let answer = session.serve(tester, &request, source, PAGE);
@@ -476,12 +556,12 @@ fn counts_among_checks(tester: &mut Tester) {
     let mut session = Session::counting(shape);
     session.replace_metadata(&vec![0xFF; shape.metadata_len()]);
     for (cut_heap, metadata_len, number) in [
-        (0, 186, 13),
-        (0, 185, 3),
-        (0, 56, 3),
-        (0, 55, 3),
+        (0, 190, 13),
+        (0, 189, 3),
+        (0, 60, 3),
+        (0, 59, 3),
         (0, 0, 3),
-        (1, 186, 2),
+        (1, 190, 2),
     ] {
         session.heap.show(shape.heap_len() - cut_heap);
         session.metadata.show(metadata_len);
@@ -493,6 +573,113 @@ fn counts_among_checks(tester: &mut Tester) {
         session.open(tester, 1, 1).number == 0,
         "opening over counts",
     );
+}
+
+/// An object of 8 bytes at 640, and text all round it: a free that is served
+/// writes the pattern over the object, and one that is refused nothing. An
+/// allocation writes nothing.
+fn painting_frees(tester: &mut Tester) {
+    let mut session = Session::counting(Shape { region: 4_096 });
+    session.open(tester, 1, 1);
+    session.scribble(632, b"before it, the object, behind it");
+    session.run(tester, ALLOCATE, 5);
+    let text = session.heap.bytes().to_vec();
+    for offset in [639, 641, 648, 49_152] {
+        session.run(tester, FREE, offset);
+        expect(session.heap.bytes() == text, "a heap after a refused free");
+    }
+    session.run(tester, FREE, 640);
+    let mut painted = text;
+    painted[640..648].copy_from_slice(&[PATTERN_BYTES, PATTERN_BYTES].concat());
+    expect(
+        session.heap.bytes() == painted,
+        "a heap after a served free",
+    );
+    let mut metadata = session.metadata.bytes().to_vec();
+    inputs::set_pattern(&mut metadata, 0);
+    metadata[70] = 1; // slot 80 is live
+    metadata[8] = 1;
+    session.replace_metadata(&metadata);
+    session.run(tester, FREE, 640);
+    painted[640..648].fill(0);
+    expect(session.heap.bytes() == painted, "a free by another pattern");
+}
+
+/// An object of 8 bytes at 640: nothing is listed until others write past it or
+/// after its free, and its own bytes never are.
+fn inspections(tester: &mut Tester) {
+    let mut session = Session::counting(Shape { region: 4_096 });
+    session.open(tester, 1, 1);
+    session.run(tester, ALLOCATE, 5);
+    session.run(tester, COPY_BYTES, 640);
+    let served = |value| Answer { number: 0, value };
+    expect(session.inspect(tester, 0).0 == served(0), "a clean heap");
+    session.scribble(644, b"text too long");
+    expect(session.inspect(tester, 9).1 == [648, 656], "past an object");
+    session.run(tester, FREE, 640);
+    expect(session.inspect(tester, 9).1 == [648, 656], "after a free");
+    session.scribble(647, b"!");
+    for (list_len, answer) in [
+        (0, TOO_SHORT),
+        (2, TOO_SHORT),
+        (3, served(3)),
+        (4, served(3)),
+    ] {
+        let (found, listed) = session.inspect(tester, list_len);
+        let expected: &[u32] = if answer == TOO_SHORT {
+            &[]
+        } else {
+            &[640, 648, 656]
+        };
+        expect(found == answer && listed == expected, "a list's length");
+    }
+    session.scribble(640, &[PATTERN_BYTES; 3].concat());
+    expect(
+        session.inspect(tester, 9).1 == [648, 656],
+        "painted by hand",
+    );
+    session.scribble(640, &[PATTERN_BYTES; 7].concat()[1..]);
+    expect(
+        session.inspect(tester, 9).1 == [640, 648, 656, 664],
+        "out of step",
+    );
+    session.open(tester, 1, 1);
+    session.inspect_changed(tester, 9);
+}
+
+/// Lengths are judged before counts, and a list last of all.
+fn inspections_among_checks(tester: &mut Tester) {
+    let shape = Shape { region: 4_096 };
+    let mut session = Session::counting(shape);
+    let mut metadata = vec![0; shape.metadata_len()];
+    session.replace_metadata(&metadata);
+    expect(
+        session.inspect(tester, 1_022).0 == TOO_SHORT,
+        "a list too short",
+    );
+    expect(
+        session.inspect(tester, 1_023).1.len() == 1_023,
+        "all slots listed",
+    );
+    inputs::set_count(&mut metadata, 11, 1);
+    session.replace_metadata(&metadata);
+    for (heap_len, metadata_len, number) in [
+        (49_152, 190, 13),
+        (49_152, 189, 3),
+        (49_152, 60, 3),
+        (49_152, 0, 3),
+        (49_151, 190, 2),
+        (49_151, 189, 2),
+        (0, 0, 2),
+    ] {
+        session.heap.show(heap_len);
+        session.metadata.show(metadata_len);
+        let (answer, _) = session.inspect(tester, 9);
+        expect(
+            answer == Answer { number, value: 0 },
+            "an inspection refused",
+        );
+    }
 }
 
 /// Each call is made twice: once with NULL, once with a dangling pointer.
@@ -509,6 +696,7 @@ fn null_buffers(tester: &mut Tester) {
             session.serve(tester, &request, &[], &[]);
         }
         null_pages(tester, &mut session, object);
+        (0..2).for_each(|_| session.inspect_changed(tester, 0));
         null_votes(tester);
         null_session(tester, &mut session);
     }
@@ -537,6 +725,7 @@ fn null_session(tester: &mut Tester, session: &mut Session) {
             session.open(tester, 0, 0);
             session.run(tester, ALLOCATE, 8);
             session.read(tester, 0, 8, &[]);
+            session.inspect(tester, 0);
         }
     }
     session.show_all();
@@ -563,6 +752,7 @@ fn too_long(tester: &mut Tester) {
     let mut session = Session::counting(Shape { region: 1 << 21 });
     session.open(tester, 1, 1);
     session.run(tester, ALLOCATE, 8);
+    session.inspect(tester, 8);
 }
 
 /// Edges of every region length: openings, a class filled to its limit, and
@@ -619,7 +809,7 @@ fn edge_reads(tester: &mut Tester, session: &mut Session, start: u32) {
 }
 
 /// A count above half, of any class, refuses every request of another class, the
-/// malformed ones, and reads.
+/// malformed ones, reads, and inspections.
 fn counts_above_half(tester: &mut Tester, shape: Shape) {
     let mut session = Session::counting(shape);
     session.open(tester, 1, 1);
@@ -645,6 +835,8 @@ fn counts_above_half(tester: &mut Tester, shape: Shape) {
             part.number == 13 && shown == (0, 1, 0),
             "a read by a count above half",
         );
+        let (answer, _) = session.inspect(tester, class);
+        expect(answer == CORRUPT, "an inspection by a count above half");
     }
 }
 
@@ -694,6 +886,75 @@ fn counts_of_nothing(tester: &mut Tester, shape: Shape) {
         session.metadata.bytes() == metadata,
         "metadata after refusals",
     );
+    let (answer, _) = session.inspect(tester, 0);
+    expect(answer.number == 0, "an inspection by counts of nothing");
+}
+
+/// Opening writes the pattern over every slot, anew from its first byte on, and
+/// no byte outside slots.
+fn painted_slots(tester: &mut Tester, shape: Shape) {
+    let mut session = Session::counting(shape);
+    let mut expected = session.heap.bytes().to_vec();
+    session.open(tester, 1, 1);
+    for class in 0..CLASSES {
+        let (start, size) = (class * shape.region, inputs::slot_size(class));
+        for at in 0..shape.slots(class) * size {
+            expected[start + at] = PATTERN_BYTES[at % size % 4];
+        }
+    }
+    expect(session.heap.bytes() == expected, "painted slots");
+    expect(session.inspect(tester, 0).0.number == 0, "an opened heap");
+}
+
+/// The last byte of each class's first slot and the first byte of its last are
+/// written to: those slots are listed, and live ones are not.
+fn inspected_edges(tester: &mut Tester, shape: Shape) {
+    let mut session = Session::counting(shape);
+    session.open(tester, 1, 1);
+    let mut edges = Vec::new();
+    for class in (0..CLASSES).filter(|&class| shape.slots(class) > 0) {
+        let (start, size) = (class * shape.region, inputs::slot_size(class));
+        let last = start + shape.region - size;
+        session.scribble(start + size - 1, &[!PATTERN_BYTES[3]]);
+        session.scribble(last, &[!PATTERN_BYTES[0]]);
+        edges.extend([start as u32, last as u32]);
+    }
+    edges.dedup();
+    for (list_len, expected) in [
+        (edges.len() - 1, &[][..]),
+        (edges.len(), &edges[..]),
+        (edges.len() + 1, &edges[..]),
+    ] {
+        let (_, listed) = session.inspect(tester, list_len);
+        expect(listed == expected, "slots at the edges of classes");
+    }
+    session.replace_metadata(&inputs::all_live(shape));
+    expect(session.inspect(tester, 0).0.number == 0, "live slots");
+}
+
+/// No slot holds the pattern: all are listed, and with every other bit set the
+/// others are.
+fn inspected_slots(tester: &mut Tester, shape: Shape) {
+    let mut session = Session::counting(shape);
+    let mut metadata = vec![0; shape.metadata_len()];
+    session.replace_metadata(&metadata);
+    let all = shape.all_slots();
+    expect(
+        session.inspect(tester, all - 1).0 == TOO_SHORT,
+        "all slots but one",
+    );
+    let (_, listed) = session.inspect(tester, all);
+    expect(listed.len() == all, "all slots");
+    metadata[inputs::BITMAPS..].fill(0b0101_0101);
+    session.replace_metadata(&metadata);
+    let (_, others) = session.inspect(tester, all);
+    let odd = |offset: &u32| {
+        let (offset, region) = (*offset as usize, shape.region);
+        offset % region / inputs::slot_size(offset / region) % 2 == 1
+    };
+    let expected: Vec<u32> = listed.into_iter().filter(odd).collect();
+    expect(others == expected, "every other slot");
+    session.inspect_changed(tester, expected.len());
 }
 
 /// Walks that start anywhere in a class.
@@ -793,14 +1054,15 @@ fn wrong_lengths(tester: &mut Tester, rng: &mut Random) {
             shape,
             heap: Twin::new(&heap, guard),
             metadata: Twin::new(&metadata, guard),
-            guard,
-            opened: false,
+            ..Session::new(shape, &[], guard)
         };
         let (z, w) = (rng.pick(&[0, 1, 9]), rng.pick(&[0, 1, 9]));
         random_serve(tester, rng, &mut session, &[]);
-        session.open(tester, z, w);
+        session.inspect(tester, rng.below(3));
+        session.open_with(tester, z, w, inputs::pattern(rng));
         random_serve(tester, rng, &mut session, &[]);
         random_read(tester, rng, &mut session, &[]);
+        session.inspect(tester, rng.below(3));
     }
 }
 
@@ -824,6 +1086,24 @@ fn random_read(tester: &mut Tester, rng: &mut Random, session: &mut Session, all
     session.read(tester, offset, count, &page);
 }
 
+/// An inspection with a list that is about as long as it must be.
+fn random_inspection(tester: &mut Tester, rng: &mut Random, session: &mut Session) {
+    let hits = compare::hits(session.heap.bytes(), session.metadata.bytes());
+    let list_len = inputs::list_length(rng, hits);
+    if rng.once_in(4) {
+        session.inspect_changed(tester, list_len);
+    } else {
+        session.inspect(tester, list_len);
+    }
+}
+
+/// Others write to the heap, wherever they like.
+fn random_scribble(rng: &mut Random, session: &mut Session, allocated: &[u32]) {
+    let pattern = inputs::pattern_of(session.metadata.bytes());
+    let (at, bytes) = inputs::scribble(rng, session.shape, pattern, allocated);
+    session.scribble(at, &bytes);
+}
+
 /// Any request, seldom damaged.
 fn random_request(rng: &mut Random, shape: &Shape, allocated: &[u32]) -> Vec<u8> {
     let operation = rng.pick(&[0, 0, 0, 0, 0, 1, 1, 2, 3, 4, 5, 5, 6, 6]);
@@ -843,15 +1123,16 @@ fn random_request(rng: &mut Random, shape: &Shape, allocated: &[u32]) -> Vec<u8>
     }
 }
 
-/// A run of requests on one heap; some runs fill a single class.
+/// A run of requests on one heap; some runs fill a single class, and in some
+/// others write to the heap.
 fn random_session(tester: &mut Tester, rng: &mut Random, calls: u64) {
     let shape = Shape::random(rng);
     let heap = rng.bytes(shape.heap_len());
     let mut session = Session::new(shape, &heap, random_guard(rng));
+    session.others_write = rng.once_in(2);
     let mut allocated = Vec::new();
     if rng.once_in(3) {
-        let metadata = inputs::foreign_metadata(rng, shape);
-        session.replace_metadata(&metadata);
+        foreign_start(rng, &mut session);
     } else {
         random_open(tester, rng, &mut session);
     }
@@ -865,12 +1146,25 @@ fn random_session(tester: &mut Tester, rng: &mut Random, calls: u64) {
     session.expect_counts();
 }
 
+/// Metadata that no opening made; half of these heaps hold the pattern all the
+/// same, so that few slots are listed.
+fn foreign_start(rng: &mut Random, session: &mut Session) {
+    let metadata = inputs::foreign_metadata(rng, session.shape);
+    session.replace_metadata(&metadata);
+    if rng.once_in(2) {
+        let pattern = inputs::pattern_of(&metadata);
+        session
+            .heap
+            .replace(&inputs::painted(session.shape, pattern));
+    }
+}
+
 fn random_open(tester: &mut Tester, rng: &mut Random, session: &mut Session) {
     let (z, w) = (
         inputs::seed_word(rng, STUCK_Z),
         inputs::seed_word(rng, STUCK_W),
     );
-    session.open(tester, z, w);
+    session.open_with(tester, z, w, inputs::pattern(rng));
 }
 
 fn random_step(
@@ -889,6 +1183,8 @@ fn random_step(
             remember(allocated, answer);
         }
         (71..=77, _) => random_read(tester, rng, session, allocated),
+        (78..=81, _) => random_inspection(tester, rng, session),
+        (82..=86, _) if session.others_write => random_scribble(rng, session, allocated),
         _ => {
             let (operation, answer) = random_serve(tester, rng, session, allocated);
             if operation == Some(ALLOCATE) {
@@ -901,6 +1197,7 @@ fn random_step(
         cut_lengths(rng, session);
         session.run(tester, ALLOCATE, 8);
         random_read(tester, rng, session, allocated);
+        session.inspect(tester, rng.below(3));
         session.show_all();
     }
 }

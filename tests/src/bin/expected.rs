@@ -4,6 +4,8 @@ use poheldu_tests::reference::{metadata_length, open, serve};
 use std::io::{self, BufRead, BufWriter, Read, Write};
 
 const HEAP_LENGTH: usize = 12 * 4_096;
+/// Four zero bytes.
+const PATTERN: u32 = 0;
 
 fn main() -> io::Result<()> {
     let mut output = BufWriter::new(io::stdout().lock());
@@ -14,7 +16,7 @@ fn main() -> io::Result<()> {
 fn run(input: &mut impl BufRead, output: &mut impl Write) -> io::Result<()> {
     let mut heap = vec![0; HEAP_LENGTH];
     let mut metadata = vec![0; metadata_length(HEAP_LENGTH)];
-    open(&heap, &mut metadata, 1, 1);
+    open(&mut heap, &mut metadata, 1, 1, PATTERN);
     let mut request = Vec::with_capacity(16);
     for line in 1u64.. {
         request.clear();

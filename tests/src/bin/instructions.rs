@@ -1,6 +1,6 @@
 //! One request after another, for a count of instructions by valgrind's callgrind (tests/instructions):
 //! `instructions ours|second REQUEST` serves the request once, on a heap with regions of 4,096 bytes;
-//! call-N is no request but a read of N bytes by its own call.
+//! call-N is no request but a read of N bytes by its own call, and inspect an inspection that lists nothing.
 
 use poheldu_tests::capi;
 use poheldu_tests::reference::{self, Answer, Part};
@@ -25,6 +25,12 @@ fn second_serve(
 #[inline(never)]
 fn second_read(heap: &[u8], metadata: &[u8], offset: u32, count: u32, page: &[u8]) -> Part {
     reference::read(heap, metadata, offset, count, page)
+}
+
+/// Counted as `poheldu_inspect` is.
+#[inline(never)]
+fn second_inspect(heap: &[u8], metadata: &[u8], list: &mut [u32]) -> Answer {
+    reference::inspect(heap, metadata, list)
 }
 
 fn request(operation: u32, argument: u32, count: u32) -> [u8; 16] {
@@ -74,13 +80,16 @@ fn main() -> ExitCode {
     };
     let mut heap = vec![0; HEAP];
     let mut metadata = vec![0; reference::metadata_length(HEAP)];
-    reference::open(&heap, &mut metadata, 1, 1);
+    reference::open(&mut heap, &mut metadata, 1, 1, 0);
     let place = request(0, 256, 0);
     let at = reference::serve(&mut heap, &mut metadata, &place, &[], &[]).value;
     if let Some(count) = called(word) {
         let read = if ours { capi::read } else { second_read };
         let (at, count) = black_box((at, count));
         black_box(read(&heap, &metadata, at, count, &[]));
+    } else if word == "inspect" {
+        let inspect = if ours { capi::inspect } else { second_inspect };
+        black_box(inspect(&heap, &metadata, black_box(&mut [0; 8])));
     } else if let Some((bytes, length)) = named(word, at) {
         let serve = if ours { capi::serve } else { second_serve };
         let (request, source) = black_box((&bytes, &[65; 257][..length]));

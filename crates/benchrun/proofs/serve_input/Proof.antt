@@ -11,7 +11,7 @@ use Rattle.benchrun.proofs.serve_input.Tie as tie
 
 record Kept (heap metadata input out : List ℕ) (kept turns : ℕ) : Type 0 where
   heap-length : length heap ≡ 49152
-  metadata-length : length metadata ≡ 186
+  metadata-length : length metadata ≡ 190
   input-length : length input ≡ 16384
   out-length : length out ≡ 65536
   few : kept < 16

@@ -24,23 +24,27 @@ get-requires c κs = search needs
 get-requires-2 : tie.Need-get-requires-2
 get-requires-2 c κs = search needs
 
+get-requires-3 : tie.Need-get-requires-3
+get-requires-3 c κs = search needs
+
 word-up-to-requires-3 : tie.Need-word-up-to-requires-3
 word-up-to-requires-3 c κs = search needs
 
-mul-t9 : tie.Need-mul-t9
-mul-t9 c = search needs
+mul-t10 : tie.Need-mul-t10
+mul-t10 c = search needs
 
 returns : tie.Need-returns
 returns c =
-    let of = c .before .before .before .before in
+    let of = c .before .before .before .before .before in
     let count = of .before .word-up-to2 in
     let heap = of .before .before .word-up-to in
-    let least = rw (of .of .ensures, heap .ensures) at (c .before .before .before .least .ensures) in (
+    let least = rw (of .of .ensures, heap .ensures) at (c .before .before .before .before .least .ensures) in (
       λ i. record {
         heap = heap .ensures i;
         metadata = least i;
-        z = c .before .before .get .ensures i;
-        w = c .before .get2 .ensures i;
+        z = c .before .before .before .get .ensures i;
+        w = c .before .before .get2 .ensures i;
+        canary = c .before .get3 .ensures i;
         source = c .word-up-to3 .ensures i;
         requests = requestSize * count .ensures i;
       },
@@ -57,6 +61,7 @@ case-of-spec =
     least-requires
     get-requires
     get-requires-2
+    get-requires-3
     word-up-to-requires-3
-    mul-t9
+    mul-t10
     returns)

@@ -13,7 +13,7 @@ use Rattle.conformance.proofs.main.Tie as tie
 record Kept (heap metadata header source requests out : List ℕ) : Type 0 where
   heap-length : length heap ≡ heapRoom
   metadata-length : length metadata ≡ metadataRoom
-  header-length : length header ≡ 20
+  header-length : length header ≡ 24
   source-length : length source ≡ sourceRoom
   requests-length : length requests ≡ requestSize * requestsRoom
   out-length : length out ≡ 65536

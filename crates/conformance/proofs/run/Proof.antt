@@ -28,8 +28,8 @@ same-length-3 c = search needs
 returns : tie.Need-returns
 returns c =
     let batched = c .before .before .before .before .before .before .before .before in
-    let opening = batched .before .before .before .before .before .before .«open» in
-    let served = rw (opening .ensures .1) at (batched .batch .ensures) in (
+    let opening = batched .before .before .before .before .before .before .before .before .«open» in
+    let served = rw (opening .ensures .1, opening .ensures .2) at (batched .batch .ensures) in (
       (λ i. record { number = c .before .number .ensures i; value = c .value .ensures i }) ∙ opening .ensures .0,
       ((served .0 .0, served .0 .2, served .0 .3), served .1),
     )

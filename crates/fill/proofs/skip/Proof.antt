@@ -4,7 +4,8 @@ use mathlib.Core.Path.{_≡_, refl}
 use native.Mathlib.Omega.{arith}
 use borrow.Author.Needs.{needs}
 use Rattle.bytes.specs.Bytes.{indexOf}
-use Rattle.fill.proofs.Index.{block-has, block-none, block-passed, block-last}
+use Rattle.search.proofs.Blocks.{block-passed, block-last}
+use Rattle.fill.proofs.Index.{block-has, block-none}
 use Rattle.fill.proofs.skip.Statement.{statement}
 use Rattle.fill.proofs.skip.Tie as tie
 

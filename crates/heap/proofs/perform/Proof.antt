@@ -1,7 +1,7 @@
 -- `heap::perform` meets its contract, by the request: what an operation is not lent, it leaves.
 use borrow.Author.Needs.{needs}
 use mathlib.Core.Path.{_∙_}
-use Rattle.heap.proofs.Performing.{allocate-heap, free-heap, remaining-heap, remaining-metadata, copy-metadata}
+use Rattle.heap.proofs.Performing.{allocate-heap, remaining-heap, remaining-metadata, copy-metadata}
 use Rattle.heap.proofs.Performing.{read-heap, read-metadata}
 use Rattle.heap.proofs.perform.Statement.{statement}
 use Rattle.heap.proofs.perform.Tie as tie
@@ -50,30 +50,33 @@ returns c =
 same-length-2 : tie.Need-same-length-2
 same-length-2 c = search needs
 
-returns-2 : tie.Need-returns-2
-returns-2 c =
-    let done = c .before .before .free .ensures in
-    rw (c .before .before .before .before .before .request2 .given .1) (done .0, done .1, free-heap _ _ _ _)
-
 same-length-3 : tie.Need-same-length-3
 same-length-3 c = search needs
 
-returns-3 : tie.Need-returns-3
-returns-3 c = rw (c .before .before .before .request3 .given .1) (c .remaining .ensures, remaining-metadata _ _ _, remaining-heap _ _ _ _)
+returns-2 : tie.Need-returns-2
+returns-2 c =
+    let done = c .before .before .before .before in
+    rw (done .before .before .before .before .request2 .given .1) (done .free .ensures)
 
 same-length-4 : tie.Need-same-length-4
 same-length-4 c = search needs
 
+returns-3 : tie.Need-returns-3
+returns-3 c = rw (c .before .before .before .request3 .given .1) (c .remaining .ensures, remaining-metadata _ _ _, remaining-heap _ _ _ _)
+
 same-length-5 : tie.Need-same-length-5
 same-length-5 c = search needs
+
+same-length-6 : tie.Need-same-length-6
+same-length-6 c = search needs
 
 returns-4 : tie.Need-returns-4
 returns-4 c =
     let done = c .before .before .copy .ensures in
     rw (c .before .before .before .before .before .before .request4 .given .1) (done .0, copy-metadata _ _ _ _ _, done .1)
 
-same-length-6 : tie.Need-same-length-6
-same-length-6 c = search needs
+same-length-7 : tie.Need-same-length-7
+same-length-7 c = search needs
 
 returns-5 : tie.Need-returns-5
 returns-5 c =
@@ -101,11 +104,12 @@ perform-spec =
     same-length
     returns
     same-length-2
-    returns-2
     same-length-3
-    returns-3
+    returns-2
     same-length-4
+    returns-3
     same-length-5
-    returns-4
     same-length-6
+    returns-4
+    same-length-7
     returns-5)

@@ -1,13 +1,12 @@
 -- `heap::serve` meets its contract, by what it is admitted by.
 use borrow.Author.Needs.{needs}
 use mathlib.Core.Path.{refl, sym, _∙_}
-use Rattle.rules.proofs.Serving.{laid-fits, admit-unfit, admit-over, admit-laid, serving-unfit, serving-acts}
-use Rattle.heap.proofs.Part.{has-fields}
+use Rattle.rules.proofs.Serving.{admit-fits, serving-unfit, serving-acts}
 use Rattle.heap.proofs.serve.Statement.{statement}
 use Rattle.heap.proofs.serve.Tie as tie
 
-lengths-requires : tie.Need-lengths-requires
-lengths-requires c κs = search needs
+admit-requires : tie.Need-admit-requires
+admit-requires c κs = search needs
 
 enum-known-refusal : tie.Need-enum-known-refusal
 enum-known-refusal c = search needs
@@ -15,30 +14,16 @@ enum-known-refusal c = search needs
 enum-known-layout : tie.Need-enum-known-layout
 enum-known-layout c = search needs
 
-any-over-requires : tie.Need-any-over-requires
-any-over-requires c κs =
-    let layout = c .before .before in
-    let laid = sym (layout .before .before .lengths .ensures) ∙ layout .layout .given .1 in
-    has-fields _ (laid-fits _ _ laid .1)
+act-requires : tie.Need-act-requires
+act-requires c κs =
+    let layout = c .before .before .before in
+    admit-fits _ _ (sym (layout .before .before .admit .ensures) ∙ layout .layout .given .1) .1
 
 same-length : tie.Need-same-length
 same-length c = search needs
 
 returns : tie.Need-returns
-returns c =
-    let layout = c .before .before .before .before in
-    let laid = sym (layout .before .before .lengths .ensures) ∙ layout .layout .given .1 in
-    rw (serving-unfit _ _ _ _ (admit-over _ _ laid (sym (c .before .any-over .ensures) ∙ c .if1 .taken))) (refl, refl, refl)
-
-act-requires : tie.Need-act-requires
-act-requires c κs =
-    let layout = c .before .before .before .before .before .before in
-    laid-fits _ _ (sym (layout .before .before .lengths .ensures) ∙ layout .layout .given .1) .1
-
-returns-2 : tie.Need-returns-2
-returns-2 c =
-    let unfit = sym (c .before .before .before .lengths .ensures) ∙ c .before .refusal .given .1 in
-    rw (serving-unfit _ _ _ _ (admit-unfit _ _ unfit)) (refl, refl, refl)
+returns c = rw (serving-unfit _ _ _ _ (sym (c .before .before .before .admit .ensures) ∙ c .before .refusal .given .1)) (refl, refl, refl)
 
 same-length-2 : tie.Need-same-length-2
 same-length-2 c = search needs
@@ -46,26 +31,22 @@ same-length-2 c = search needs
 same-length-3 : tie.Need-same-length-3
 same-length-3 c = search needs
 
-returns-3 : tie.Need-returns-3
-returns-3 c =
-    let counted = c .before .before .before .before .before .before .before .before in
-    let layout = counted .before .before .before in
-    let laid = sym (layout .before .before .lengths .ensures) ∙ layout .layout .given .1 in
-    rw (serving-acts _ _ _ _ (admit-laid _ _ laid (sym (counted .any-over .ensures) ∙ c .before .before .before .before .before .before .before .if1 .left)))
-    (c .before .before .before .before .act .ensures)
+returns-2 : tie.Need-returns-2
+returns-2 c =
+    let layout = c .before .before .before .before .before .before .before .before in
+    let laid = sym (layout .before .before .admit .ensures) ∙ layout .layout .given .1 in
+    rw (serving-acts _ _ _ _ laid) (c .before .before .before .before .act .ensures)
 
 pub serve-spec : {M : Type 1} → statement M
 serve-spec =
     tie.close
     (tie.spec
-    lengths-requires
+    admit-requires
     enum-known-refusal
     enum-known-layout
-    any-over-requires
+    act-requires
     same-length
     returns
-    act-requires
-    returns-2
     same-length-2
     same-length-3
-    returns-3)
+    returns-2)

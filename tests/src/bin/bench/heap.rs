@@ -5,6 +5,9 @@ use poheldu_tests::reference::Answer;
 
 pub type Request = [u8; 16];
 
+/// The pattern that heaps are opened with: its bytes are all different.
+pub const PATTERN: u32 = 0xB5E3_C7A9;
+
 pub fn request(operation: u32, argument: u32, count: u32) -> Request {
     let mut bytes = [0; 16];
     for (word, value) in bytes.chunks_mut(4).zip([operation, argument, count, 0]) {
@@ -50,7 +53,8 @@ impl Heap {
             bytes: vec![0; 12 * region],
             metadata: vec![0; capi::metadata_length(12 * region)],
         };
-        assert_eq!(capi::open(&heap.bytes, &mut heap.metadata, 1, 1).number, 0);
+        let opened = capi::open(&mut heap.bytes, &mut heap.metadata, 1, 1, PATTERN);
+        assert_eq!(opened.number, 0);
         heap
     }
 

@@ -1,4 +1,4 @@
-//! Ratios in one run: the proved library against the second implementation, other allocators, memcpy and memcmp.
+//! Ratios in one run: the proved library against the second implementation, other allocators, memcpy, memset and memcmp.
 //! `bench BENCHRUN` prints tables in Markdown. Contenders take turns, and medians of the rounds are shown.
 
 mod churn;
@@ -6,6 +6,7 @@ mod copies;
 mod heap;
 mod measure;
 mod operations;
+mod painting;
 mod reads;
 mod stream;
 mod votes;
@@ -32,6 +33,7 @@ fn all(benchrun: &str) {
     }
     operations::sizes();
     operations::growth();
+    painting::tables();
     reads::table();
     votes::table();
     copies::table();

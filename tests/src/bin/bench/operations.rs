@@ -1,6 +1,6 @@
 //! Each operation against the second implementation, both on the same heap and with the same requests.
 
-use crate::heap::{allocate, figure, free, read, remaining, request, Heap, Request};
+use crate::heap::{allocate, figure, free, read, remaining, request, Heap, Request, PATTERN};
 use crate::measure::{head, ratio, repeat, rounds, row, time, ROUNDS};
 use crate::votes;
 use poheldu_tests::reference::Answer;
@@ -12,16 +12,19 @@ use std::ops::Range;
 /// The calls of a round.
 const CALLS: usize = 512;
 
+/// The openings of a round that are served: each writes all of its heap.
+const OPENINGS: usize = 8;
+
 /// Where the metadata has the live count of the last class.
 const LAST_COUNT: Range<usize> = 52..56;
 
 /// Serves a request: on a heap and its metadata, with a source and a page.
-trait Serve: Fn(&mut [u8], &mut [u8], &[u8], &[u8], &[u8]) -> Answer {}
+pub trait Serve: Fn(&mut [u8], &mut [u8], &[u8], &[u8], &[u8]) -> Answer {}
 
 impl<F: Fn(&mut [u8], &mut [u8], &[u8], &[u8], &[u8]) -> Answer> Serve for F {}
 
 /// Requests on a heap in a known state, and the refusal's number that all of them get.
-struct Case {
+pub struct Case {
     name: String,
     number: u32,
     heap: Heap,
@@ -51,7 +54,7 @@ impl Case {
     }
 
     /// The case is what it says it is, for both implementations.
-    fn check(&self) {
+    pub fn check(&self) {
         let answers = self.answers(capi::serve);
         assert!(answers.iter().all(|a| a.number == self.number));
         assert_eq!(answers, self.answers(reference::serve));
@@ -70,14 +73,14 @@ impl Case {
 }
 
 /// What both implementations run a case on, in turns: the metadata several times where the requests are few.
-struct Stage<'a> {
+pub struct Stage<'a> {
     case: &'a Case,
     bytes: Vec<u8>,
     metadata: Vec<Vec<u8>>,
 }
 
 impl Stage<'_> {
-    fn new(case: &Case) -> Stage<'_> {
+    pub fn new(case: &Case) -> Stage<'_> {
         let times = CALLS.div_ceil(case.requests.len());
         Stage {
             case,
@@ -86,7 +89,7 @@ impl Stage<'_> {
         }
     }
 
-    fn run(&mut self, serve: impl Serve) -> f64 {
+    pub fn run(&mut self, serve: impl Serve) -> f64 {
         for metadata in &mut self.metadata {
             metadata.copy_from_slice(&self.case.heap.metadata);
         }
@@ -118,7 +121,7 @@ fn allocating(region: usize, size: usize) -> Case {
 }
 
 /// Frees of objects of a size, whose class is half full at first.
-fn freeing(region: usize, size: usize) -> Case {
+pub fn freeing(region: usize, size: usize) -> Case {
     let half = region / size / 2;
     let mut heap = Heap::new(region);
     let mut objects = heap.fill(size, half);
@@ -217,19 +220,21 @@ fn metadata_lengths(region: usize) {
 }
 
 fn openings(region: usize, name: &str, seed: u32) {
-    let heap = Heap::new(region);
-    let (mut ours, mut theirs) = (heap.metadata.clone(), heap.metadata);
+    let calls = if seed == 0 { CALLS } else { OPENINGS };
+    let heap = RefCell::new(Heap::new(region));
     row(
         name,
         [
             &mut || {
-                repeat(CALLS, &seed, |&z| {
-                    black_box(capi::open(&heap.bytes, &mut ours, z, 1));
+                let Heap { bytes, metadata } = &mut *heap.borrow_mut();
+                repeat(calls, &seed, |&z| {
+                    black_box(capi::open(bytes, metadata, z, 1, PATTERN));
                 })
             },
             &mut || {
-                repeat(CALLS, &seed, |&z| {
-                    black_box(reference::open(&heap.bytes, &mut theirs, z, 1));
+                let Heap { bytes, metadata } = &mut *heap.borrow_mut();
+                repeat(calls, &seed, |&z| {
+                    black_box(reference::open(bytes, metadata, z, 1, PATTERN));
                 })
             },
         ],

@@ -18,7 +18,7 @@ fn requests() -> Vec<u8> {
     let mut random = Random::new(1);
     let mut heap = vec![0; 12 * 4096];
     let mut metadata = vec![0; reference::metadata_length(heap.len())];
-    reference::open(&heap, &mut metadata, 1, 1);
+    reference::open(&mut heap, &mut metadata, 1, 1, 0);
     let mut live: Vec<u32> = Vec::new();
     let mut input = Vec::with_capacity(16 * REQUESTS);
     while input.len() < 16 * REQUESTS {

@@ -8,14 +8,14 @@ use std::hint::black_box;
 
 const CALLS: usize = 16;
 
-type Memcmp = unsafe extern "C" fn(*const c_void, *const c_void, usize) -> c_int;
+pub type Memcmp = unsafe extern "C" fn(*const c_void, *const c_void, usize) -> c_int;
 
 extern "C" {
-    fn memcmp(a: *const c_void, b: *const c_void, len: usize) -> c_int;
+    pub fn memcmp(a: *const c_void, b: *const c_void, len: usize) -> c_int;
 }
 
 /// Whether memcmp finds two blocks of one length equal.
-fn equal(compare: Memcmp, a: &[u8], b: &[u8]) -> bool {
+pub fn equal(compare: Memcmp, a: &[u8], b: &[u8]) -> bool {
     // SAFETY: both blocks have the length of `a`.
     0 == unsafe { compare(a.as_ptr().cast(), b.as_ptr().cast(), a.len()) }
 }

@@ -3,7 +3,7 @@ use borrow.Author.Needs.{needs}
 use mathlib.Core.Path.{_≡_, refl}
 use native.Mathlib.Omega.{arith}
 use Rattle.geometry.specs.Layout.{slots}
-use Rattle.heap.proofs.Part.{has-fields}
+use Rattle.judge.proofs.Admitting.{has-fields}
 use Rattle.heap.proofs.Allocating.{too-large, too-small, at-capacity, roomy}
 use Rattle.heap.proofs.allocate.allocate.Statement.{statement}
 use Rattle.heap.proofs.allocate.allocate.Tie as tie

@@ -5,7 +5,8 @@ use mathlib.Core.Path.{refl}
 use borrow.Author.Needs.{needs}
 use Rattle.geometry.proofs.Slots.{slots-le}
 use Rattle.heap.proofs.Allocating.{taken-none, taken-slot, taken-done}
-use Rattle.heap.proofs.Part.{has-fields, within}
+use Rattle.judge.proofs.Admitting.{has-fields}
+use Rattle.heap.proofs.Part.{within}
 use Rattle.heap.proofs.allocate.take.Statement.{statement}
 use Rattle.heap.proofs.allocate.take.Tie as tie
 

@@ -17,7 +17,8 @@ use Rattle.heap.specs.Relied.{Within}
 use Rattle.rules.specs.Metadata.{countOf}
 use Rattle.rules.specs.Outcome.{refused, freed}
 use Rattle.rules.specs.Object.{free}
-use Rattle.heap.proofs.Part.{has-fields, within, part-changed}
+use Rattle.judge.proofs.Admitting.{has-fields}
+use Rattle.heap.proofs.Part.{within, part-changed}
 use Rattle.heap.proofs.Live.{tested-live}
 use Rattle.heap.proofs.Freeing.{no-start, at-start}
 use Rattle.heap.proofs.object.free.Statement.{statement}

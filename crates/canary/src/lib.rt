@@ -1,0 +1,118 @@
+// Canaries: bytes and all slots of a heap filled with one, and where bytes no longer hold it.
+use geometry::CLASSES;
+use geometry::Layout;
+use numbers::least;
+use numbers::wide;
+ghost use mathlib.Core.Path.{_≡_};
+ghost use Prim.Native.Nat.{_-_, _%_, _<_, _≤_};
+ghost use lib.ListN.{length};
+ghost use Rattle.words.specs.Word.{bytesOf};
+ghost use Rattle.search.specs.Tabulate.{tabulate};
+ghost use Rattle.rules.specs.Canary.{cycled, filled, damage, hasDamage, filledHeap};
+
+// The bytes of a canary.
+const SIZE: usize = 4;
+
+// Slots are filled with copies of this many bytes: longer ones the C library copies more slowly.
+const COPY: usize = 2048;
+
+// A search goes by blocks of this length, then by single canaries, and then by bytes.
+const BLOCK: usize = 64;
+
+// A canary's four bytes, lowest first.
+fn bytes_of(canary: u32) -> [u8; SIZE]
+    ensures { λ r. ⌜ r ≡ bytesOf canary ⌝ }
+{
+    let mut four = [0u8; SIZE];
+    words::put(&mut four, 0, canary);
+    four
+}
+
+// Fills bytes, from the first on.
+pub fn fill(bytes: &mut [u8], canary: u32)
+    ensures { λ _. ⌜ now (bytes .exit) ≡ filled canary (length (now (bytes .entry))) ⌝ }
+{
+    let mut at: usize = 0;
+    while SIZE <= bytes.len() - at {
+        words::put(&mut bytes[at..at + SIZE], 0, canary);
+        at += SIZE;
+    }
+    writing::write(&mut bytes[at..], &bytes_of(canary));
+}
+
+// Writes a block over and over.
+fn spread(bytes: &mut [u8], block: &[u8])
+    requires { ⌜ 0 < length (now block) ⌝ }
+    ensures { λ _. ⌜ now (bytes .exit) ≡ tabulate (cycled (now (block .entry))) 0 (length (now (bytes .entry))) ⌝ }
+{
+    let mut at: usize = 0;
+    while at < bytes.len() {
+        at += writing::write(&mut bytes[at..], block);
+    }
+}
+
+// Fills every slot. Slots are whole canaries long and lie side by side, so a class's are filled as one.
+pub fn fill_slots(heap: &mut [u8], layout: Layout, canary: u32)
+    ensures { λ _. ⌜ now (heap .exit) ≡ filledHeap layout canary (now (heap .entry)) ⌝ }
+{
+    let mut block = [0u8; COPY];
+    fill(&mut block, canary);
+    let mut class: usize = 0;
+    while class < CLASSES {
+        let start = least(class * wide(layout.region), heap.len());
+        let end = least(
+            start + layout.slots(class) * layout.slot_size(class),
+            heap.len(),
+        );
+        spread(&mut heap[start..end], &block);
+        class += 1;
+    }
+}
+
+// Whether a block of whole canaries is damaged. The loop has no early exit, so that it vectorises.
+fn differs(block: &[u8], canary: u32) -> bool
+    requires { ⌜ length (now block) % 4 ≡ 0 ⌝ }
+    ensures { λ r. ⌜ r ≡ hasDamage canary (now (block .entry)) ⌝ }
+{
+    let mut found = false;
+    let mut i: usize = 0;
+    while i < block.len() {
+        found = found | (words::get(&block[i..i + SIZE], 0) != canary);
+        i += SIZE;
+    }
+    found
+}
+
+// Passes over whole blocks that are not damaged, from a place that no damage comes before.
+fn skip(bytes: &[u8], canary: u32, from: usize, block: usize) -> usize
+    requires { ⌜ (from ≤ damage canary (now bytes)) × (from % 4 ≡ 0) × (block % 4 ≡ 0) × (0 < block) ⌝ }
+    ensures { λ r.
+        let end = damage canary (now (bytes .entry)) in
+        ⌜ r ≡ end - (end - from) % block ⌝ }
+{
+    let mut at = from;
+    while block <= bytes.len() - at {
+        let next = at + block;
+        if differs(&bytes[at..next], canary) {
+            return at;
+        }
+        at = next;
+    }
+    at
+}
+
+// The first damaged byte; the bytes' length where there is none.
+pub fn first_damage(bytes: &[u8], canary: u32) -> usize
+    ensures { λ r. ⌜ r ≡ damage canary (now (bytes .entry)) ⌝ }
+{
+    let four = bytes_of(canary);
+    let far = skip(bytes, canary, 0, BLOCK);
+    let mut at = skip(bytes, canary, far, SIZE);
+    while at < bytes.len() {
+        if bytes[at] != four[at % SIZE] {
+            return at;
+        }
+        at += 1;
+    }
+    at
+}

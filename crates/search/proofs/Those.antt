@@ -1,0 +1,69 @@
+-- Laws of `those`: as a loop meets it that goes from one to the next, how many they may be, and that the same test gives
+-- the same numbers.
+use Prim.Native.Nat.{ℕ, zero, suc, _+_, _-_, _≤_, _<_}
+use mathlib.Core.Path.{_≡_, refl, ap}
+use mathlib.Core.Bool.{Bool, true, false}
+use mathlib.Core.List.{List, [], _∷_}
+use native.Mathlib.Omega.{arith}
+use lib.ListN.{length}
+use Rattle.search.specs.First.{first}
+use Rattle.search.specs.Those.{those}
+
+module _ (test : ℕ → Bool) where
+  -- the first, and then those after it
+  next : (i k : ℕ) → first test i k < i + k
+      → those test i k ≡ first test i k ∷ those test (suc (first test i k)) (i + k - suc (first test i k))
+  unfolding first those
+  next i zero h = absurd (omega arith)
+  next i (suc k) h = go (test i) refl (next (suc i) k)
+    where
+      go : (t : Bool) → test i ≡ t
+          → (first test (suc i) k < suc i + k
+          → those test (suc i) k
+          ≡ first test (suc i) k ∷ those test (suc (first test (suc i) k)) (suc i + k - suc (first test (suc i) k)))
+          → those test i (suc k) ≡ first test i (suc k) ∷ those test (suc (first test i (suc k))) (i + suc k - suc (first test i (suc k)))
+      go true e rest = let left : i + suc k - suc i ≡ k = omega arith in rw (e, first, those, left)
+      go false e rest =
+          let l : first test (suc i) k < i + suc k = rw (e, first) at h in
+          let same : i + suc k ≡ suc i + k = omega arith in
+          rw (e, first, those, same) (rest (omega arith))
+
+  none : (i k : ℕ) → i + k ≤ first test i k → those test i k ≡ []
+  unfolding first those
+  none i zero h = refl
+  none i (suc k) h = go (test i) refl (none (suc i) k)
+    where
+      go : (t : Bool) → test i ≡ t → (suc i + k ≤ first test (suc i) k → those test (suc i) k ≡ []) → those test i (suc k) ≡ []
+      go true e rest = let l : i + suc k ≤ i = rw (e, first) at h in absurd (omega arith)
+      go false e rest = let l : i + suc k ≤ first test (suc i) k = rw (e, first) at h in rw (e, those) (rest (omega arith))
+
+  -- the same up to n, as a loop has it
+  pub those-next : {i n x : ℕ} → i ≤ n → x ≡ first test i (n - i) → x < n → those test i (n - i) ≡ x ∷ those test (x + 1) (n - (x + 1))
+  those-next {i} {n} {x} l e h =
+      let end : i + (n - i) ≡ n = omega arith in
+      let after : suc x ≡ x + 1 = omega arith in
+      rw (← after) (rw (← e, end) at (next i (n - i) (rw (← e, end) h)))
+
+  pub those-none : {i n x : ℕ} → i ≤ n → x ≡ first test i (n - i) → n ≤ x → those test i (n - i) ≡ []
+  those-none {i} {n} l e h = none i (n - i) (rw (← e) (omega arith))
+
+  -- at most all
+  pub those-few : (i k : ℕ) → length (those test i k) ≤ k
+  unfolding those
+  those-few i zero = omega arith
+  those-few i (suc k) = go (test i) refl (those-few (suc i) k)
+    where
+      go : (t : Bool) → test i ≡ t → length (those test (suc i) k) ≤ k → length (those test i (suc k)) ≤ suc k
+      go true e rest = rw (e, those) (omega arith)
+      go false e rest = rw (e, those) (omega arith)
+
+  pub those-same : (other : ℕ → Bool) (i k : ℕ) → ((x : ℕ) → i ≤ x → x < i + k → test x ≡ other x) → those test i k ≡ those other i k
+  unfolding those
+  those-same other i zero h = refl
+  those-same other i (suc k) h =
+      let rest : those test (suc i) k ≡ those other (suc i) k = those-same other (suc i) k (λ x l m. h x (omega arith) (omega arith)) in
+      go (other i) (h i (omega arith) (omega arith)) refl rest
+    where
+      go : (t : Bool) → test i ≡ t → other i ≡ t → those test (suc i) k ≡ those other (suc i) k → those test i (suc k) ≡ those other i (suc k)
+      go true e f rest = rw (e, f, those) (ap (λ (xs : List ℕ). i ∷ xs) rest)
+      go false e f rest = rw (e, f, those) rest
