@@ -46,6 +46,7 @@ use Rattle.rules.proofs.Metadata.{generator-length, canary-written}
 use Rattle.rules.proofs.Inspecting.{slot-byte, inspection-laid}
 use Rattle.rules.proofs.Serving.{has-layout, opened-by}
 use Rattle.rules.proofs.Clipping.{writes-le}
+use Rattle.rules.proofs.Refusing.{refused-idle}
 
 -- every clear slot holds the canary throughout
 abbrev pub Intact : Layout → List ℕ → List ℕ → Type 0
@@ -188,7 +189,7 @@ module _ (G : Layout) (m h : List ℕ) (valid : Valid G m) (fits : length h ≡ 
 
   -- so a served outcome is enough
   kept : {o o′ : Outcome} → Comes o o′ → (o′ ≡ o → Keeps o) → Keeps o′
-  kept (refuses r) f = (refl, intact)
+  kept (refuses r) f = (ap length (refused-idle G m r .heap h), intact)
   kept serves f = f refl
 
   act-keeps : (beside : Lent) (p : Parsed) → Keeps (act G m beside p)

@@ -32,8 +32,11 @@ Changeless m c = (c .answer .number ≡ 0 → ⊥) → Idle m c
 unserved-idle : (m : List ℕ) (r : Refusal) → Idle m (unserved m r)
 unserved-idle m r = record { value = refl; metadata = refl; heap = λ h. refl; view = refl }
 
+pub refused-idle : (G : Layout) (m : List ℕ) (r : Refusal) → Idle m (calledBy G m (refused r))
+refused-idle G m r = unserved-idle m r
+
 pub outcome-refused : (G : Layout) (m : List ℕ) (o : Outcome) → Changeless m (calledBy G m o)
-outcome-refused G m (refused r) h = unserved-idle m r
+outcome-refused G m (refused r) h = refused-idle G m r
 outcome-refused G m (allocated c i g) h = absurd (h refl)
 outcome-refused G m (freed c i) h = absurd (h refl)
 outcome-refused G m (told value offset bytes) h = absurd (h refl)

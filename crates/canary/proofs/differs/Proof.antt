@@ -12,13 +12,13 @@ use Rattle.canary.proofs.differs.Statement.{statement}
 use Rattle.canary.proofs.differs.Tie as tie
 
 abbrev Inv-loop : tie.InvT-loop
-Inv-loop block canary found₀ i₀ found i = (i ≤ length block) × (i % 4 ≡ 0) × (found ≡ ltb (damage canary block) i)
+Inv-loop block canary found₀ i₀ found i = (found ≡ ltb (damage canary block) i) × (i ≤ length block) × (i % 4 ≡ 0)
 
 abbrev μ-loop : tie.MeasureT-loop
 μ-loop block canary found₀ i₀ found i = length block - i
 
 loop-holds : tie.Need-loop-holds Inv-loop μ-loop
-loop-holds c = (omega arith, refl, sym (le-ltb (damage (c .before .args .canary) (c .before .args .block .now)) 0 zero-le))
+loop-holds c = (sym (le-ltb (damage (c .before .args .canary) (c .before .args .block .now)) 0 zero-le), omega arith, refl)
 
 add-get : tie.Need-add-get Inv-loop μ-loop
 add-get c = omega arith
@@ -45,14 +45,14 @@ loop-again : tie.Need-loop-again Inv-loop μ-loop
 loop-again c =
     let loop = c .before .before .before .loop in
     let start = c .before .before .before .before .before in (
+      damage-next (start .args .canary) (start .args .block .now) (loop .i) (omega arith) (λ i. omega (arith, c .before .before .before .before .shared-slice-known .given i))
+          (loop .inv .2) (omega (arith, start .pre)) (c .get .ensures) (loop .inv .0),
       omega (arith, start .pre),
       omega arith,
-      damage-next (start .args .canary) (start .args .block .now) (loop .i) (omega arith) (λ i. omega (arith, c .before .before .before .before .shared-slice-known .given i))
-          (loop .inv .1) (omega (arith, start .pre)) (c .get .ensures) (loop .inv .2),
     )
 
 returns : tie.Need-returns Inv-loop μ-loop
-returns c = let all : c .before .loop .i ≡ length (c .before .before .before .args .block .now) = omega arith in rw all at (c .before .loop .inv .2)
+returns c = let all : c .before .loop .i ≡ length (c .before .before .before .args .block .now) = omega arith in rw all at (c .before .loop .inv .0)
 
 pub differs-spec : {M : Type 1} → statement M
 differs-spec =
