@@ -1,11 +1,13 @@
 /*
- * Decodes a beacon's search log three times, each time on a heap of its own with seeds of its own, and passes on what
- * two copies agree on. The decoder has two faults, a name that does not fit its object and an object that is freed
- * twice: on this heap neither does harm. The name is clipped and still ends, so that it prints as any other. A signal
- * without a name is stored with an empty one, an object of 0 bytes.
+ * Decodes a beacon's search log three times, each time on a heap of its own with new seeds, and passes on what two
+ * copies agree on. The decoder has two faults, a name that does not fit its object and an object that is freed twice:
+ * on this heap neither does harm. The name is clipped and still ends, so that it prints as any other. A signal without
+ * a name is stored with an empty one, an object of 0 bytes. The seeds go to standard error, for the rental slip: with
+ * them a readout can be repeated.
  */
 #include "poheldu.h"
 
+#include <inttypes.h>
 #include <stdio.h>
 #include <stdlib.h>
 #include <string.h>
@@ -115,17 +117,18 @@ int main(void)
                               "\n"
                               "7 28 Bertrand of the very long name that no object here could hold\n"
                               "12 9 Cleo\n";
-    static const uint32_t seeds[COPIES][2] = {{1, 1}, {5, 65535}, {2024, 1312}};
     static _Alignas(16) uint8_t heaps[COPIES][POHELDU_HEAP_BYTES(REGION)];
     static uint8_t metadata[COPIES][POHELDU_METADATA_BYTES(REGION)], reports[COPIES][OUTPUT], agreed[OUTPUT + 1];
     for (int i = 0; i < COPIES; i++) {
         const poheldu_heap h = {heaps[i], sizeof heaps[i], metadata[i], sizeof metadata[i]};
+        const poheldu_seeds s = poheldu_random_seeds();
         const poheldu_answer opened =
-            poheldu_open(h.heap, h.heap_len, h.metadata, h.metadata_len, seeds[i][0], seeds[i][1], PATTERN);
+            poheldu_open(h.heap, h.heap_len, h.metadata, h.metadata_len, s.z, s.w, PATTERN);
         if (opened.number != POHELDU_SERVED) {
             fprintf(stderr, "copy %d: %s\n", i, poheldu_name(opened.number));
             return 1;
         }
+        fprintf(stderr, "copy %d: seeds %08" PRIx32 " and %08" PRIx32 "\n", i, s.z, s.w);
         report_on(&h, decode(&h, log), (char *)reports[i]);
     }
     reports[1][0] = '9'; /* one copy goes wrong */

@@ -18,8 +18,9 @@
  *     int main(void)
  *     {
  *         const poheldu_heap h = {heap, sizeof heap, metadata, sizeof metadata};
+ *         const poheldu_seeds s = poheldu_random_seeds();
  *         poheldu_answer a =
- *             poheldu_open(heap, sizeof heap, metadata, sizeof metadata, 7, 11, 0xB5E3C7A9);
+ *             poheldu_open(heap, sizeof heap, metadata, sizeof metadata, s.z, s.w, 0xB5E3C7A9);
  *         char *name = poheldu_new(&h, 8);
  *         if (a.number != POHELDU_SERVED || name == NULL)
  *             return 1;
@@ -61,6 +62,7 @@
 #include <stddef.h>
 #include <stdint.h>
 #include <string.h>
+#include <sys/random.h>
 
 #ifdef __cplusplus
 extern "C" {
@@ -206,7 +208,7 @@ typedef struct {
 
 typedef enum {
     POHELDU_SERVED = 0,
-    POHELDU_ZERO_SEED = 1,         /* opening with z or w zero */
+    POHELDU_UNUSABLE_SEED = 1,     /* opening with a z or w that is zero or freezes */
     POHELDU_HEAP_LENGTH = 2,       /* not 12 times a power of two from 1,024 to 1,048,576 */
     POHELDU_METADATA_LENGTH = 3,   /* not poheldu_metadata_length of the heap's length */
     POHELDU_MALFORMED_REQUEST = 4, /* not 16 bytes, no such operation, a byte set that must be 0 */
@@ -231,7 +233,7 @@ typedef enum {
 static inline const char *poheldu_name(uint32_t number)
 {
     static const char *const names[] = {
-        "served",           "zero seed",         "heap length",
+        "served",           "unusable seed",     "heap length",
         "metadata length",  "malformed request", "unsupported size",
         "class too small",  "class at capacity", "out of range",
         "not a slot start", "not allocated",     "invalid vote",
@@ -246,12 +248,13 @@ static inline const char *poheldu_name(uint32_t number)
  * Opens a heap: writes fresh metadata, in which nothing is allocated, and fills every slot with
  * the pattern, over and over from the slot's first byte; that takes little longer than a memset of
  * the heap. Bytes outside slots, in regions that are shorter than a slot of their class, are kept.
- * Value 0. Refuses HEAP_LENGTH, METADATA_LENGTH, ZERO_SEED.
+ * Value 0. Refuses HEAP_LENGTH, METADATA_LENGTH, UNUSABLE_SEED.
  *
  * heap, heap_len          written: what its slots held is lost
  * metadata, metadata_len  written; as long as poheldu_metadata_length(heap_len)
- * z, w                    seeds, neither of them 0: the same seeds place the same requests in the
- *                         same slots, so take new ones for each run
+ * z, w                    seeds, as poheldu_random_seeds gives them; poheldu_usable_seeds says
+ *                         which are taken. The same seeds place the same requests in the same
+ *                         slots, so take new ones for each run
  * pattern                 what clear slots, those that are not live, hold for poheldu_inspect to
  *                         look for: four bytes, the number's, lowest first. Any will do, but a
  *                         stray write of just these bytes is not seen: take one that is unlikely in
@@ -368,6 +371,55 @@ POHELDU_NODISCARD poheldu_verdict poheldu_vote(const uint8_t *blocks, size_t blo
  *     uint8_t *metadata = (uint8_t *)malloc(poheldu_metadata_length(heap_len));
  */
 POHELDU_NODISCARD size_t poheldu_metadata_length(size_t heap_len);
+
+/* ---- Seeds */
+
+/* The two halves of the generator that draws slots. */
+typedef struct {
+    uint32_t z, w;
+} poheldu_seeds;
+
+/*
+ * Whether poheldu_open takes these seeds. A draw makes of z 36,969 times its low 16 bits plus its
+ * high 16, and of w the same with 18,000. Some values freeze: draws do not change them, or change
+ * them once and never again, so that one half of all draws is the same. These are zero in either
+ * half, 0x9068FFFF in z, and 0x464FFFFF, 0x8C9FFFFE and 0xD2EFFFFD in w. They are the multiples of
+ * one number for each half, and no other value ever freezes. From any thread, at any time.
+ *
+ *     poheldu_seeds noted = {z, w};
+ *     if (!poheldu_usable_seeds(noted))
+ *         fprintf(stderr, "no heap was opened with these\n");
+ */
+POHELDU_NODISCARD static inline int poheldu_usable_seeds(poheldu_seeds seeds)
+{
+    return seeds.z % (UINT32_C(36969) * 65536 - 1) != 0 &&
+           seeds.w % (UINT32_C(18000) * 65536 - 1) != 0;
+}
+
+/*
+ * New seeds that poheldu_open takes, from the system's random source (getrandom). Take new ones for
+ * each run and for each replica in it, so that a mistake which does harm in one layout need not do
+ * the same in another, and note them where a run may have to be repeated. Where the source fails,
+ * both halves are 0, which poheldu_open refuses: its answer is all there is to check. From any
+ * thread, at any time.
+ *
+ *     poheldu_seeds s = poheldu_random_seeds();
+ *     poheldu_answer a = poheldu_open(heap, sizeof heap, metadata, sizeof metadata, s.z, s.w,
+ *                                     pattern);
+ *     if (a.number == POHELDU_UNUSABLE_SEED)
+ *         fprintf(stderr, "no random seeds\n");
+ */
+POHELDU_NODISCARD static inline poheldu_seeds poheldu_random_seeds(void)
+{
+    const poheldu_seeds none = {0, 0};
+    poheldu_seeds drawn;
+    /* Six seeds in four billion are refused: four such in a row are no random source's. */
+    for (int tries = 0; tries < 4; tries++)
+        if (getrandom(&drawn, sizeof drawn, 0) == (ssize_t)sizeof drawn &&
+            poheldu_usable_seeds(drawn))
+            return drawn;
+    return none;
+}
 
 /* ---- Objects, by pointer
  *

@@ -8,9 +8,14 @@
 #include <stdlib.h>
 #include <string.h>
 
-/* The header's functions call watched_serve, which looks at what they lend and passes it on. */
+/*
+ * The header's functions call watched_serve, which looks at what they lend and passes it on, and watched_getrandom,
+ * which gives what a test wants.
+ */
 #define poheldu_serve watched_serve
+#define getrandom watched_getrandom
 #include "poheldu.h"
+#undef getrandom
 #undef poheldu_serve
 
 #ifdef __cplusplus
@@ -690,7 +695,7 @@ static void opening_paints(void)
     poheldu_heap h = opened(1024), before;
     fill(h.heap, h.heap_len);
     before = twin_of(h);
-    EXPECT(is(poheldu_open(h.heap, h.heap_len, h.metadata, h.metadata_len, 0, 11, PATTERN), POHELDU_ZERO_SEED, 0));
+    EXPECT(is(poheldu_open(h.heap, h.heap_len, h.metadata, h.metadata_len, 0, 11, PATTERN), POHELDU_UNUSABLE_SEED, 0));
     EXPECT(same(h, before));
     EXPECT(is(poheldu_open(h.heap, h.heap_len, h.metadata, h.metadata_len, 7, 11, PATTERN), POHELDU_SERVED, 0));
     for (size_t at = 0; at < h.heap_len; at++) {
@@ -750,6 +755,79 @@ static void frees_paint(void)
     closed(h);
 }
 
+/* ---- seeds */
+
+/* What the random source gives next, how many of these there are, and how often it was asked; then it fails. */
+static const poheldu_seeds *script;
+static size_t script_len, asked;
+
+/* What fails gives no bytes, or not all of them. */
+ssize_t watched_getrandom(void *buffer, size_t len, unsigned flags)
+{
+    static const uint8_t part[] = {1, 2, 3, 4, 5, 6, 7};
+    asked++;
+    EXPECT(len == sizeof *script && flags == 0);
+    if (script_len == 0) {
+        memcpy(buffer, part, sizeof part);
+        return asked % 2 == 0 ? (ssize_t)sizeof part : -1;
+    }
+    memcpy(buffer, script, sizeof *script);
+    script++;
+    script_len--;
+    return sizeof *script;
+}
+
+/* The seeds drawn from a source that gives so many and then fails. */
+static poheldu_seeds drawn_from(const poheldu_seeds *given, size_t count)
+{
+    script = given;
+    script_len = count;
+    asked = 0;
+    return poheldu_random_seeds();
+}
+
+static int are(poheldu_seeds s, uint32_t z, uint32_t w)
+{
+    return s.z == z && s.w == w;
+}
+
+/* Whether seeds are refused: by the header as by the library. */
+static int refuses(const poheldu_heap *h, uint32_t z, uint32_t w)
+{
+    const poheldu_seeds s = {z, w};
+    const poheldu_answer a = poheldu_open(h->heap, h->heap_len, h->metadata, h->metadata_len, z, w, PATTERN);
+    EXPECT(is(a, poheldu_usable_seeds(s) ? POHELDU_SERVED : POHELDU_UNUSABLE_SEED, 0));
+    return a.number != POHELDU_SERVED;
+}
+
+/* What freezes in either half, and what lies next to it, in both halves; and seeds from anywhere. */
+static void seeds_judged(void)
+{
+    static const uint32_t middles[] = {0, 0x464FFFFF, 0x8C9FFFFE, 0x9068FFFF, 0xD2EFFFFD};
+    const poheldu_heap h = opened(1024);
+    int refused = 0;
+    for (uint32_t i = 0; i < 15; i++)
+        for (uint32_t k = 0; k < 15; k++)
+            refused += refuses(&h, middles[i / 3] + i % 3 - 1, middles[k / 3] + k % 3 - 1);
+    EXPECT(refused == 2 * 15 + 4 * 15 - 2 * 4); /* two values of z, with any w, and four of w */
+    for (int i = 0; i < 1000; i++)
+        EXPECT(!refuses(&h, 1 + random_below(UINT32_MAX), 1 + random_below(UINT32_MAX)));
+    closed(h);
+}
+
+/* Those that would be refused are drawn again; a source that fails, or gives nothing else, gives zeros. */
+static void seeds_drawn(void)
+{
+    static const poheldu_seeds given[] = {{0, 1}, {0x9068FFFF, 1}, {1, 0x8C9FFFFE}, {0x464FFFFF, 0x9068FFFF}},
+                               refused[] = {{0, 0}, {1, 0x464FFFFF}, {1, 0xD2EFFFFD}, {0x9068FFFF, 0x8C9FFFFE}, {5, 6}};
+    for (size_t skipped = 0; skipped < 4; skipped++) {
+        EXPECT(are(drawn_from(given + skipped, 4 - skipped), 0x464FFFFF, 0x9068FFFF) && asked == 4 - skipped);
+        EXPECT(are(drawn_from(refused, skipped), 0, 0) && asked == 4);
+    }
+    EXPECT(are(drawn_from(refused, 5), 0, 0) && asked == 4);
+    EXPECT(are(drawn_from(refused + 1, 4), 5, 6) && asked == 4);
+}
+
 /* ---- macros */
 
 typedef uint8_t heap_array[POHELDU_HEAP_BYTES(1024)], metadata_array[POHELDU_METADATA_BYTES(1 << 12)];
@@ -799,6 +877,8 @@ int main(void)
     opening_paints();
     stray_writes();
     frees_paint();
+    seeds_judged();
+    seeds_drawn();
     looks_everywhere();
     destinations_outside();
     ends_of_texts();

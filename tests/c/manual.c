@@ -106,7 +106,7 @@ static void check_table(FILE *header)
         wrong("not a row for each class", head);
 }
 
-/* A refusal's name is its enumerator's: POHELDU_ZERO_SEED = 1 is "zero seed". */
+/* A refusal's name is its enumerator's: POHELDU_UNUSABLE_SEED = 1 is "unusable seed". */
 static void check_names(FILE *header)
 {
     static const char prefix[] = "    POHELDU_";

@@ -12,6 +12,9 @@ enum { NUMBERS = POHELDU_LIST_TOO_SHORT + 1, OPERATIONS = 7, CLASSES = 12, REPLI
 /* Inspections that are told apart: by what they list, by what their list lacks, and those refused for a count. */
 enum { NOTHING, WITH_ROOM, JUST_ENOUGH, ONE_TOO_FEW, FEWER, CORRUPT, INSPECTIONS };
 
+/* Seeds that are told apart: those refused for a half, and those served with what is frozen in the other half. */
+enum { ZERO_Z, ZERO_W, FROZEN_Z, FROZEN_W, EXCHANGED = FROZEN_W + 3, SEEDS };
+
 static struct {
     uint64_t numbers[NUMBERS];   /* answers, by refusal number */
     uint64_t served[OPERATIONS]; /* served requests, by operation */
@@ -21,6 +24,7 @@ static struct {
     uint64_t corrupt[3];         /* corrupt metadata: a count above half, no clear slot, a free by a count of 0 */
     uint64_t shown[2][2];        /* reads served, by of_page and by whether the part has a byte */
     uint64_t inspected[INSPECTIONS];
+    uint64_t seeds[SEEDS]; /* openings of right lengths */
 } seen;
 
 /* ---- differences */
@@ -148,6 +152,20 @@ static void count_served(lent_heap h, const twin *request, const twin *source, u
     seen.of_nothing += argument == 0;
 }
 
+static void count_seeds(poheldu_answer a, poheldu_seeds seeds)
+{
+    const bool judged = a.number == POHELDU_SERVED || a.number == POHELDU_UNUSABLE_SEED;
+    bool exchanged = seeds.w == frozen_z;
+    for (int i = 0; i < 3; i++) {
+        seen.seeds[FROZEN_W + i] += judged && seeds.w == frozen_w[i];
+        exchanged = exchanged || seeds.z == frozen_w[i];
+    }
+    seen.seeds[ZERO_Z] += judged && seeds.z == 0;
+    seen.seeds[ZERO_W] += judged && seeds.w == 0;
+    seen.seeds[FROZEN_Z] += judged && seeds.z == frozen_z;
+    seen.seeds[EXCHANGED] += exchanged && a.number == POHELDU_SERVED;
+}
+
 static void count_inspection(poheldu_answer a, size_t list_len, size_t hits)
 {
     if (a.number == POHELDU_SERVED)
@@ -173,6 +191,8 @@ bool calls_saw_all(void)
         all = all && seen.shown[i][0] > 0 && seen.shown[i][1] > 0;
     for (int i = 0; i < INSPECTIONS; i++)
         all = all && seen.inspected[i] > 0;
+    for (int i = 0; i < SEEDS; i++)
+        all = all && seen.seeds[i] > 0;
     return all;
 }
 
@@ -198,18 +218,24 @@ void calls_report(void)
             seen.inspected[NOTHING], seen.inspected[WITH_ROOM], seen.inspected[JUST_ENOUGH]);
     fprintf(stderr, ", one too few: %" PRIu64 ", fewer: %" PRIu64 ", corrupt metadata: %" PRIu64 "\n", seen.inspected[ONE_TOO_FEW],
             seen.inspected[FEWER], seen.inspected[CORRUPT]);
+    fprintf(stderr, "fuzz: openings with z zero: %" PRIu64 ", w zero: %" PRIu64 ", z frozen: %" PRIu64, seen.seeds[ZERO_Z], seen.seeds[ZERO_W],
+            seen.seeds[FROZEN_Z]);
+    fprintf(stderr, ", w frozen: %" PRIu64 " %" PRIu64 " %" PRIu64 "; served with what is frozen in the other half: %" PRIu64 "\n",
+            seen.seeds[FROZEN_W], seen.seeds[FROZEN_W + 1], seen.seeds[FROZEN_W + 2], seen.seeds[EXCHANGED]);
     fprintf(stderr, "fuzz: %" PRIu64 " calls, %" PRIu64 " of them requests\n", calls, seen.requests);
 }
 
 /* ---- the calls */
 
-poheldu_answer call_open(lent_heap h, uint32_t z, uint32_t w, uint32_t pattern)
+poheldu_answer call_open(lent_heap h, poheldu_seeds seeds, uint32_t pattern)
 {
+    const uint32_t z = seeds.z, w = seeds.w;
     const twin *const heap = h.heap, *const metadata = h.metadata;
     const poheldu_answer ours = poheldu_open(twin_ours(heap), heap->len, twin_ours(metadata), metadata->len, z, w, pattern);
     const poheldu_answer theirs = reference_open(twin_theirs(heap), heap->len, twin_theirs(metadata), metadata->len, z, w, pattern);
     require_same(ours, theirs, "an opening", BUFFERS(heap, metadata));
     seen.numbers[ours.number]++;
+    count_seeds(ours, seeds);
     return ours;
 }
 

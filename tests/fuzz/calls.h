@@ -12,7 +12,10 @@ typedef struct {
     twin *heap, *metadata;
 } lent_heap;
 
-poheldu_answer call_open(lent_heap h, uint32_t z, uint32_t w, uint32_t pattern);
+/* Halves of seeds, beside zero, that draws never change or change once: no opening takes them. */
+static const uint32_t frozen_z = 0x9068FFFF, frozen_w[] = {0x464FFFFF, 0x8C9FFFFE, 0xD2EFFFFD};
+
+poheldu_answer call_open(lent_heap h, poheldu_seeds seeds, uint32_t pattern);
 poheldu_answer call_serve(lent_heap h, const twin *request, const twin *source, const twin *page);
 void call_read(lent_heap h, uint32_t offset, uint32_t count, const twin *page);
 poheldu_answer call_inspect(lent_heap h, const twin *list); /* the list's length in bytes is one of whole numbers */
@@ -26,8 +29,8 @@ enum { LONGEST_REGION = 8192, MOST_LISTED = POHELDU_ALL_SLOTS(LONGEST_REGION) };
 uint32_t hits_of(lent_heap h);
 
 /*
- * Whether every refusal, every operation served, the walk, and every kind of string, of corrupt metadata, of part shown
- * and of inspection have come.
+ * Whether every refusal, every operation served, the walk, and every kind of seeds, of string, of corrupt metadata, of
+ * part shown and of inspection have come.
  */
 bool calls_saw_all(void);
 

@@ -2,24 +2,45 @@
 
 enum { COUNTS_AT = 8, COUNTS_LEN = 4 * CLASSES, PATTERN_AT = COUNTS_AT + COUNTS_LEN, BITMAPS_AT = PATTERN_AT + 4, DRAWS = 32 };
 
-/* Seeds of which every draw is the same. */
-static const uint32_t STUCK_Z = 0x9068FFFF, STUCK_W = 0x464FFFFF;
-
-static uint32_t any_seed(choices *c, uint32_t stuck)
+/* A half of seeds: most are good, some zero, frozen, next to a frozen one, or frozen in the other half alone. */
+static uint32_t any_half(choices *c, uint32_t frozen, uint32_t other)
 {
     static const uint32_t few[] = {1, 2, 65535, 65536, UINT32_MAX};
-    switch (below(c, 8)) {
+    switch (below(c, 16)) {
     case 0:
     case 1:
         return PICK(c, few);
     case 2:
+        return frozen;
     case 3:
-        return stuck;
+        return (uint32_t)around(c, frozen);
     case 4:
         return 0;
+    case 5:
+        return other;
     default:
         return next_word(c);
     }
+}
+
+static poheldu_seeds any_seeds(choices *c)
+{
+    poheldu_seeds seeds;
+    const uint32_t frozen = PICK(c, frozen_w);
+    seeds.z = any_half(c, frozen_z, frozen);
+    seeds.w = any_half(c, frozen, frozen_z);
+    return seeds;
+}
+
+/* Those that metadata may hold which no opening made: often such that every draw is the same. */
+static poheldu_seeds foreign_seeds(choices *c)
+{
+    poheldu_seeds seeds = any_seeds(c);
+    if (below(c, 4) == 1)
+        seeds.z = frozen_z;
+    if (below(c, 4) == 1)
+        seeds.w = PICK(c, frozen_w);
+    return seeds;
 }
 
 /* Zeros, one byte four times, or any four. */
@@ -35,9 +56,9 @@ static uint32_t any_pattern(choices *c)
     }
 }
 
-static bool open_with(run *r, uint32_t z, uint32_t w, uint32_t pattern)
+static bool open_with(run *r, poheldu_seeds seeds, uint32_t pattern)
 {
-    const bool opened = call_open(r->lent, z, w, pattern).number == POHELDU_SERVED;
+    const bool opened = call_open(r->lent, seeds, pattern).number == POHELDU_SERVED;
     if (opened)
         r->placements = 0;
     r->clean = r->clean || opened;
@@ -46,8 +67,8 @@ static bool open_with(run *r, uint32_t z, uint32_t w, uint32_t pattern)
 
 void open_any(run *r)
 {
-    const uint32_t z = any_seed(&r->input, STUCK_Z), w = any_seed(&r->input, STUCK_W), pattern = any_pattern(&r->input);
-    open_with(r, z, w, pattern);
+    const poheldu_seeds seeds = any_seeds(&r->input);
+    open_with(r, seeds, any_pattern(&r->input));
 }
 
 static size_t bitmap_start(const run *r, uint32_t class)
@@ -124,16 +145,16 @@ static uint8_t bitmap_byte(uint32_t kind, uint32_t *state)
 void foreign_metadata(run *r)
 {
     twin *const metadata = r->lent.metadata;
-    const uint32_t kind = below(&r->input, 5), z = any_seed(&r->input, STUCK_Z), w = any_seed(&r->input, STUCK_W);
-    const uint32_t pattern = any_pattern(&r->input);
+    const uint32_t kind = below(&r->input, 5), pattern = any_pattern(&r->input);
+    const poheldu_seeds seeds = foreign_seeds(&r->input), ones = {1, 1};
     uint32_t state = next_word(&r->input);
     if (below(&r->input, 2) == 1)
-        open_with(r, 1, 1, pattern);
+        open_with(r, ones, pattern);
     r->clean = false;
     for (size_t at = BITMAPS_AT; at < metadata->len; at++)
         twin_set(metadata, at, bitmap_byte(kind, &state));
-    twin_set_word(metadata, 0, z);
-    twin_set_word(metadata, 4, w);
+    twin_set_word(metadata, 0, seeds.z);
+    twin_set_word(metadata, 4, seeds.w);
     twin_set_word(metadata, PATTERN_AT, pattern);
     set_counts(r, below(&r->input, 4));
     if (below(&r->input, 8) == 1)
@@ -175,11 +196,12 @@ static void set_drawn(run *r, uint32_t class, uint32_t w)
 
 uint32_t set_trap(run *r)
 {
-    const uint32_t w = next_word(&r->input) | 1, pattern = any_pattern(&r->input);
+    const poheldu_seeds seeds = {1, next_word(&r->input) | 1};
+    const uint32_t pattern = any_pattern(&r->input);
     uint32_t class = below(&r->input, 4);
     while (slots(r, class) < 4 * DRAWS) /* else it were at capacity */
         class--;
-    if (open_with(r, 1, w, pattern))
-        set_drawn(r, class, w);
+    if (open_with(r, seeds, pattern))
+        set_drawn(r, class, seeds.w);
     return class;
 }

@@ -2,7 +2,7 @@
 //! side, and compares the answers and every byte of every buffer.
 
 use crate::capi::{self, Empty};
-use crate::inputs::{self, Shape};
+use crate::inputs::{self, Shape, FROZEN_W, FROZEN_Z};
 use crate::reference::{self, Answer, Part, Verdict};
 use std::fmt::{self, Debug, Display, LowerHex};
 
@@ -15,6 +15,7 @@ const STRINGS: usize = 6;
 const CORRUPT: usize = 8;
 const INSPECTIONS: usize = 9;
 const LISTED: usize = 7;
+const SEEDS: usize = 8;
 /// Of longer lists the slots are not told apart.
 const MOST_TOLD_APART: usize = 64;
 /// The refusal of metadata that no opening and no request left so.
@@ -79,6 +80,19 @@ pub const LISTED_KINDS: [&str; LISTED] = [
     "for their first byte alone",
     "for their last byte alone",
     "for the pattern out of step",
+];
+
+/// The kinds of openings of right lengths that are told apart by their seeds, in
+/// the order they are counted in. One may be of several.
+pub const SEED_KINDS: [&str; SEEDS] = [
+    "with a z of zero",
+    "with a w of zero",
+    "with a frozen z",
+    "with the first frozen w",
+    "with the second frozen w",
+    "with the third frozen w",
+    "next to a frozen half, served",
+    "with what is frozen in the other half, served",
 ];
 
 /// What buffers are made of: bytes, or the numbers of a list.
@@ -423,6 +437,8 @@ pub struct Tester {
     pub inspections: [u64; INSPECTIONS],
     /// Slots listed in short lists, of each kind.
     pub listed: [u64; LISTED],
+    /// Openings of right lengths, of each kind of seeds.
+    pub seeds: [u64; SEEDS],
     /// Inspections in runs from an opening in which nobody else wrote.
     pub clean: u64,
     /// Inspections that list something, made again with other bytes in live slots
@@ -453,6 +469,7 @@ impl Tester {
             corrupt: [0; CORRUPT],
             inspections: [0; INSPECTIONS],
             listed: [0; LISTED],
+            seeds: [0; SEEDS],
             clean: 0,
             changed: 0,
             walks: 0,
@@ -489,7 +506,26 @@ impl Tester {
         self.check(&call, expected, answer);
         self.check_bytes(&call, &[("heap", heap), ("metadata", metadata)]);
         self.counts[answer.number as usize] += 1;
+        self.count_seeds(answer.number, z, w);
         answer
+    }
+
+    fn count_seeds(&mut self, number: u32, z: u32, w: u32) {
+        let next_to = |frozen: &[u32], x: u32| frozen.iter().any(|value| value.abs_diff(x) == 1);
+        let served = number == 0;
+        let kinds = [
+            z == 0,
+            w == 0,
+            z == FROZEN_Z[0],
+            w == FROZEN_W[0],
+            w == FROZEN_W[1],
+            w == FROZEN_W[2],
+            served && (next_to(&FROZEN_Z, z) || next_to(&FROZEN_W, w)),
+            served && (FROZEN_W.contains(&z) || FROZEN_Z.contains(&w)),
+        ];
+        for (count, is_kind) in self.seeds.iter_mut().zip(kinds) {
+            *count += u64::from(is_kind && number <= 1);
+        }
     }
 
     pub fn serve(&mut self, heap: &mut Twin, metadata: &mut Twin, lent: &mut Lent) -> Answer {

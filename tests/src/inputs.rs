@@ -8,11 +8,13 @@ pub const CLASSES: usize = 12;
 const COUNTS: usize = 8;
 const PATTERN: usize = COUNTS + 4 * CLASSES;
 pub const BITMAPS: usize = PATTERN + 4;
-/// Seeds whose half of the generator never moves: every draw is the same.
-pub const STUCK_Z: u32 = 0x9068_FFFF;
-pub const STUCK_W: u32 = 0x464F_FFFF;
+/// The values of each half of the generator that draws never change, the first,
+/// or change once, into the first. No opening takes them; other metadata have
+/// them, and then every draw is the same.
+pub const FROZEN_Z: [u32; 1] = [0x9068_FFFF];
+pub const FROZEN_W: [u32; 3] = [0x464F_FFFF, 0x8C9F_FFFE, 0xD2EF_FFFD];
 /// The draw of both.
-pub const STUCK_DRAW: usize = 0x464E_FFFF;
+pub const FROZEN_DRAW: usize = 0x464E_FFFF;
 
 pub const HUGE: [usize; 10] = [
     1 << 32,
@@ -232,14 +234,42 @@ fn place_zeros(rng: &mut Random, bytes: &mut [u8]) {
     }
 }
 
-/// A seed word: often one that leaves the generator stuck, seldom zero.
-pub fn seed_word(rng: &mut Random, stuck: u32) -> u32 {
-    match rng.below(12) {
+/// Seeds for an opening: most are good, some zero or frozen, next to a frozen
+/// one, or frozen in the other half alone.
+pub fn seeds(rng: &mut Random) -> (u32, u32) {
+    (
+        seed(rng, &FROZEN_Z, &FROZEN_W),
+        seed(rng, &FROZEN_W, &FROZEN_Z),
+    )
+}
+
+fn seed(rng: &mut Random, frozen: &[u32], other: &[u32]) -> u32 {
+    match rng.below(24) {
         0 => 0,
-        1..=3 => stuck,
-        4 => rng.pick(&[1, 2, 65_535, 65_536, u32::MAX]),
+        1 => rng.pick(frozen),
+        2 => rng.pick(frozen) + 1,
+        3 => rng.pick(frozen) - 1,
+        4 => rng.pick(other),
+        5 | 6 => rng.pick(&[1, 2, 65_535, 65_536, u32::MAX]),
         _ => rng.word(),
     }
+}
+
+/// Seeds that metadata may hold which no opening made: often frozen.
+fn foreign_seeds(rng: &mut Random) -> (u32, u32) {
+    let (z, w) = seeds(rng);
+    (
+        if rng.once_in(4) {
+            rng.pick(&FROZEN_Z)
+        } else {
+            z
+        },
+        if rng.once_in(4) {
+            rng.pick(&FROZEN_W)
+        } else {
+            w
+        },
+    )
 }
 
 pub fn set_seeds(metadata: &mut [u8], z: u32, w: u32) {
@@ -441,7 +471,7 @@ pub fn foreign_metadata(rng: &mut Random, shape: Shape) -> Vec<u8> {
         }
     };
     if !rng.once_in(8) {
-        let (z, w) = (seed_word(rng, STUCK_Z), seed_word(rng, STUCK_W));
+        let (z, w) = foreign_seeds(rng);
         set_seeds(&mut bytes, z, w);
     }
     if !rng.once_in(8) {

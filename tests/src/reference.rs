@@ -26,6 +26,9 @@ const PATTERN_START: usize = COUNTS_START + 4 * CLASSES;
 const FIELDS_LENGTH: usize = PATTERN_START + 4;
 const REQUEST_LENGTH: usize = 16;
 const MOST_DRAWS: usize = 32;
+/// Seeds that draws never change, or change once: zero and four others.
+const UNUSABLE_Z: [u32; 2] = [0, 0x9068_FFFF];
+const UNUSABLE_W: [u32; 4] = [0, 0x464F_FFFF, 0x8C9F_FFFE, 0xD2EF_FFFD];
 const MOST_REPLICAS: usize = 16;
 const LONGEST_BLOCK: usize = 4_096;
 
@@ -82,7 +85,7 @@ pub struct Verdict {
 #[derive(Clone, Copy, Debug, PartialEq, Eq)]
 #[repr(u32)]
 enum Refusal {
-    ZeroSeed = 1,
+    UnusableSeed = 1,
     HeapLength = 2,
     MetadataLength = 3,
     MalformedRequest = 4,
@@ -170,8 +173,8 @@ fn try_open(
     pattern: u32,
 ) -> Result<u32, Refusal> {
     let layout = Layout::of_lengths(heap.len(), metadata.len())?;
-    if z == 0 || w == 0 {
-        return Err(Refusal::ZeroSeed);
+    if UNUSABLE_Z.contains(&z) || UNUSABLE_W.contains(&w) {
+        return Err(Refusal::UnusableSeed);
     }
     metadata.fill(0);
     Generator { z, w }.store(metadata);
@@ -703,7 +706,7 @@ fn sharers(blocks: &[u8], block_len: usize, first: usize, block: &[u8]) -> u32 {
 #[cfg(test)]
 mod tests {
     use super::*;
-    use crate::inputs::STUCK_W;
+    use crate::inputs::{set_seeds, FROZEN_W, FROZEN_Z};
 
     const HEAP: usize = 12 * 4_096;
     const METADATA: usize = 190;
@@ -725,6 +728,13 @@ mod tests {
             let (heap, metadata) = (vec![0xEE; HEAP], vec![0xEE; METADATA]);
             let mut bench = Bench { heap, metadata };
             assert_eq!(bench.reopen(z, w, PATTERN), served(0));
+            bench
+        }
+
+        /// A bench whose w draws leave as it is, which no opening makes.
+        fn frozen() -> Bench {
+            let mut bench = Bench::open(1, 1);
+            set_seeds(&mut bench.metadata, 1, FROZEN_W[0]);
             bench
         }
 
@@ -1138,7 +1148,7 @@ mod tests {
         assert!(bench.refuses(0, 8, 7));
         // One clear slot is found, wherever it lies.
         for slot in [0, 1, 256, 510, 511] {
-            let mut bench = Bench::open(1, STUCK_W);
+            let mut bench = Bench::frozen();
             bench.metadata[BITMAPS..].fill(0xFF);
             bench.metadata[BITMAPS + slot / 8] ^= 1 << (slot % 8);
             assert_eq!(bench.run(0, 8, 0, &[]), served(8 * slot as u32));
@@ -1169,8 +1179,65 @@ mod tests {
     }
 
     #[test]
+    fn seeds_that_freeze_are_refused() {
+        let mut bench = Bench::with_object();
+        let (heap, metadata) = (bench.heap.clone(), bench.metadata.clone());
+        for z in [0].into_iter().chain(FROZEN_Z) {
+            assert_eq!(bench.reopen(z, 1, 7), refused(1));
+        }
+        for w in [0].into_iter().chain(FROZEN_W) {
+            assert_eq!(bench.reopen(1, w, 7), refused(1));
+        }
+        assert_eq!(bench.reopen(FROZEN_Z[0], FROZEN_W[0], 7), refused(1));
+        assert_eq!((&bench.heap, &bench.metadata), (&heap, &metadata));
+        bench.metadata.pop();
+        assert_eq!(bench.reopen(FROZEN_Z[0], 1, 7), refused(3));
+    }
+
+    #[test]
+    fn seeds_are_judged_each_by_itself() {
+        for (z, w) in [
+            (FROZEN_W[0], FROZEN_Z[0]),
+            (FROZEN_W[1], 1),
+            (FROZEN_W[2], 1),
+            (FROZEN_Z[0] - 1, FROZEN_W[0] - 1),
+            (FROZEN_Z[0] + 1, FROZEN_W[0] + 1),
+            (1, FROZEN_W[1] - 1),
+            (1, FROZEN_W[1] + 1),
+            (1, FROZEN_W[2] - 1),
+            (1, FROZEN_W[2] + 1),
+            (u32::MAX, u32::MAX),
+        ] {
+            Bench::open(z, w);
+        }
+    }
+
+    #[test]
+    fn listed_seeds_stop_after_a_draw_at_the_latest() {
+        for w in FROZEN_W {
+            let mut generator = Generator { z: FROZEN_Z[0], w };
+            for _ in 0..3 {
+                generator.draw();
+                assert_eq!((generator.z, generator.w), (FROZEN_Z[0], FROZEN_W[0]));
+            }
+        }
+    }
+
+    #[test]
+    fn requests_do_not_judge_seeds() {
+        for (z, w) in [(0, 0), (FROZEN_Z[0], FROZEN_W[2]), (0, FROZEN_W[0])] {
+            let mut bench = Bench::with_object();
+            set_seeds(&mut bench.metadata, z, w);
+            assert_eq!(bench.run(0, 8, 0, &[]).number, 0);
+            assert_eq!(bench.run(2, 643, 0, &[]), served(5));
+            assert_eq!(bench.run(1, 640, 0, &[]), served(8));
+            assert_eq!(bench.inspect(), []);
+        }
+    }
+
+    #[test]
     fn walk_after_32_draws() {
-        let mut bench = Bench::open(1, STUCK_W);
+        let mut bench = Bench::frozen();
         for expected in [20_352, 16_384, 16_512] {
             assert_eq!(bench.run(0, 128, 0, &[]), served(expected));
         }

@@ -2,12 +2,12 @@
 use mathlib.Core.Path.{_≡_}
 use native.Mathlib.Omega.{arith}
 use Rattle.answer.specs.declared.Refusal.{Refusal}
-use Rattle.answer.specs.declared.Refusal.the-variants.{ZeroSeed, HeapLength, MetadataLength, MalformedRequest, UnsupportedSize, ClassTooSmall, ClassAtCapacity, OutOfRange, NotASlotStart, NotAllocated, InvalidVote, NoAgreement, CorruptMetadata, ListTooShort}
+use Rattle.answer.specs.declared.Refusal.the-variants.{UnusableSeed, HeapLength, MetadataLength, MalformedRequest, UnsupportedSize, ClassTooSmall, ClassAtCapacity, OutOfRange, NotASlotStart, NotAllocated, InvalidVote, NoAgreement, CorruptMetadata, ListTooShort}
 use Rattle.answer.specs.Reply.{numberOf}
 
 -- a refusal's number is never that of a served request
 pub refusal-number : (r : Refusal) → numberOf r ≡ 0 → ⊥
-refusal-number ZeroSeed e = omega arith
+refusal-number UnusableSeed e = omega arith
 refusal-number HeapLength e = omega arith
 refusal-number MetadataLength e = omega arith
 refusal-number MalformedRequest e = omega arith

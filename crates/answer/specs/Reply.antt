@@ -1,14 +1,14 @@
 -- The table of refusals (the paper's slips), and what an answer says in numbers.
 use Prim.Native.Nat.{ℕ}
 use Rattle.answer.specs.declared.Refusal.{Refusal}
-use Rattle.answer.specs.declared.Refusal.the-variants.{ZeroSeed, HeapLength, MetadataLength, MalformedRequest, UnsupportedSize, ClassTooSmall, ClassAtCapacity, OutOfRange, NotASlotStart, NotAllocated, InvalidVote, NoAgreement, CorruptMetadata, ListTooShort}
+use Rattle.answer.specs.declared.Refusal.the-variants.{UnusableSeed, HeapLength, MetadataLength, MalformedRequest, UnsupportedSize, ClassTooSmall, ClassAtCapacity, OutOfRange, NotASlotStart, NotAllocated, InvalidVote, NoAgreement, CorruptMetadata, ListTooShort}
 use Rattle.answer.specs.declared.Answer.{Answer}
 use Rattle.answer.specs.declared.Answer.the-variants.{Served, Refused}
 
 -- each refusal's number in the paper, whose words are: dead seed, wrong area, wrong book, spoilt ticket, no such size,
 -- closed class, half full, off the area, no start, not live, bad ballot, no two alike, torn book, short list
 abbrev pub numberOf : Refusal → ℕ
-numberOf ZeroSeed = 1
+numberOf UnusableSeed = 1
 numberOf HeapLength = 2
 numberOf MetadataLength = 3
 numberOf MalformedRequest = 4

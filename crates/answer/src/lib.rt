@@ -3,7 +3,7 @@ ghost use mathlib.Core.Path.{_≡_};
 ghost use Rattle.answer.specs.Reply.{numberOf, replyOf};
 
 pub enum Refusal {
-    ZeroSeed,
+    UnusableSeed,
     HeapLength,
     MetadataLength,
     MalformedRequest,
@@ -29,7 +29,7 @@ impl Refusal {
         ensures { λ r. ⌜ r ≡ numberOf self ⌝ }
     {
         match self {
-            Refusal::ZeroSeed => 1,
+            Refusal::UnusableSeed => 1,
             Refusal::HeapLength => 2,
             Refusal::MetadataLength => 3,
             Refusal::MalformedRequest => 4,

@@ -38,7 +38,7 @@ pub fn open(heap: &mut [u8], metadata: &mut [u8], z: u32, w: u32, canary: u32) -
         Judged::Laid(layout) => {
             let seeds = Generator { z, w };
             if seeds.is_unusable() {
-                return Answer::Refused(Refusal::ZeroSeed);
+                return Answer::Refused(Refusal::UnusableSeed);
             }
             fields::reset(metadata, seeds, canary);
             canary::fill_slots(heap, layout, canary);

@@ -8,6 +8,7 @@ use lib.ListN.{length, getD}
 use Rattle.bytes.specs.Bytes.{indexOf, indexAfter}
 use Rattle.search.specs.First.{first}
 use Rattle.search.specs.Those.{those}
+use Rattle.mwc.specs.Draw.{isOneOf}
 use Rattle.geometry.specs.Layout.{slotSize, bitmapAt}
 use Rattle.bitmap.specs.Bitmap.{putByte, nextClear}
 use Rattle.request.specs.Parse.{parse}
@@ -53,19 +54,20 @@ each (r ∷ rows) e (suc i) h = each rows (both (alike (r .computed) (r .expecte
 
 computes : allAlike table ≡ true
 unfolding allAlike table start answerTo after oneObject numbers copying bytesVoted voting row indexOf indexAfter first
-    slotSize bitmapAt putByte nextClear parse judge admit probe allocate free space remaining copy serving opening alike
-    tabulate digits leader count decide
+    isOneOf slotSize bitmapAt putByte nextClear parse judge admit probe allocate free space remaining copy serving opening
+    alike tabulate digits leader count decide
 computes = refl
 
 further-computes : allAlike further ≡ true
 unfolding allAlike further lastSet firstSet atCapacity afterSeven letters kept nearHalf classFive onlySlotSet counting shownThere opened clear answerTo after
-    start oneObject copying placeOf showing numbers voting row indexOf indexAfter first slotSize bitmapAt putByte nextClear parse judge admit
+    start oneObject copying placeOf showing numbers voting row indexOf indexAfter first isOneOf slotSize bitmapAt putByte nextClear parse judge admit
     probe allocate free space remaining copy read serving opening alike tabulate digits leader count decide
 further-computes = refl
 
 canaries-compute : allAlike canaries ≡ true
 unfolding allAlike canaries openedWith newly part overrun freeing newHits fewClear twoHit inspecting numbers row first
-    those slotSize bitmapAt putByte parse judge admit probe allocate free serving opening inspection alike tabulate
+    those isOneOf slotSize bitmapAt putByte parse judge admit probe allocate free serving opening inspection alike
+    tabulate
 canaries-compute = refl
 
 -- each of the twelve worked examples holds of the definitions

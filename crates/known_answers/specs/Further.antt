@@ -176,6 +176,17 @@ further =
     ∷ row (opened 1_024 95 0 0) (3 ∷ 0 ∷ [])
     ∷ row (opened 1_024 94 0 1) (1 ∷ 0 ∷ [])
     ∷ row (opened 1_024 94 1 0) (1 ∷ 0 ∷ [])
+    -- seeds that freeze, each in its own half, and after the lengths; those next to them, and in the other half
+    ∷ row (opened 1_024 94 0x9068ffff 1) (1 ∷ 0 ∷ [])
+    ∷ row (opened 1_024 94 1 0x464fffff) (1 ∷ 0 ∷ [])
+    ∷ row (opened 1_024 94 1 0x8c9ffffe) (1 ∷ 0 ∷ [])
+    ∷ row (opened 1_024 94 1 0xd2effffd) (1 ∷ 0 ∷ [])
+    ∷ row (opened 1_024 93 0x9068ffff 0x464fffff) (3 ∷ 0 ∷ [])
+    ∷ row (opened 1_024 94 0x9068fffe 0x464ffffe) (0 ∷ 0 ∷ [])
+    ∷ row (opened 1_024 94 0x90690000 0x46500000) (0 ∷ 0 ∷ [])
+    ∷ row (opened 1_024 94 0x464fffff 0x9068ffff) (0 ∷ 0 ∷ [])
+    ∷ row (opened 1_024 94 0x8c9ffffe 0x8c9ffffd) (0 ∷ 0 ∷ [])
+    ∷ row (opened 1_024 94 0xd2effffd 0xd2effffe) (0 ∷ 0 ∷ [])
     -- votes: 2 and 17 replicas, blocks of 0 and 4,097 bytes; 3 and 16 replicas, blocks of 4,096 bytes
     ∷ row (voting (replicate 2 0x41) 2 1 1) (11 ∷ 0 ∷ 0 ∷ 0xff ∷ [])
     ∷ row (voting (replicate 17 0x41) 17 1 1) (11 ∷ 0 ∷ 0 ∷ 0xff ∷ [])

@@ -1,1 +1,5 @@
 pub mod Halves
+pub mod Examples
+pub mod Modulus
+pub mod Freezing
+pub mod After

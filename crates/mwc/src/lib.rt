@@ -1,7 +1,12 @@
 // Marsaglia's multiply-with-carry pair: two 32-bit halves and the number that they draw.
 ghost use mathlib.Core.Path.{_≡_};
-ghost use Prim.Native.Nat.{_<_};
+ghost use Prim.Native.Nat.{_-_, _*_, _%_, _<_};
+ghost use lib.Dec.{eqb};
 ghost use Rattle.mwc.specs.Draw.{step, next, drawn, isUnusable};
+
+const Z_MULTIPLIER: u32 = 36969;
+
+const W_MULTIPLIER: u32 = 18000;
 
 pub struct Generator {
     pub z: u32,
@@ -16,14 +21,23 @@ fn step_half(multiplier: u32, x: u32) -> u32
     multiplier * (x % 65536) + x / 65536
 }
 
+// Whether a half is zero or freezes: the multiplier times 65,536, less one, divides it. Modulo that number a draw divides
+// by 65,536, so that a multiple comes from multiples alone, and nothing else stays unchanged.
+fn is_frozen(multiplier: u32, x: u32) -> bool
+    requires { ⌜ (0 < multiplier) × (multiplier < 65536) ⌝ }
+    ensures { λ r. ⌜ r ≡ eqb (x % (multiplier * 65536 - 1)) 0 ⌝ }
+{
+    x % (multiplier * 65536 - 1) == 0
+}
+
 impl Generator {
     // Both halves after a draw.
     pub fn advance(self) -> Generator
         ensures { λ r. ⌜ r ≡ next self ⌝ }
     {
         Generator {
-            z: step_half(36969, self.z),
-            w: step_half(18000, self.w),
+            z: step_half(Z_MULTIPLIER, self.z),
+            w: step_half(W_MULTIPLIER, self.w),
         }
     }
 
@@ -38,9 +52,9 @@ impl Generator {
     pub fn is_unusable(self) -> bool
         ensures { λ r. ⌜ r ≡ isUnusable self ⌝ }
     {
-        if self.z == 0 {
+        if is_frozen(Z_MULTIPLIER, self.z) {
             return true;
         }
-        self.w == 0
+        is_frozen(W_MULTIPLIER, self.w)
     }
 }

@@ -7,12 +7,14 @@ pub mod Effects
 pub mod Results
 pub mod Serving
 pub mod Refusing
+pub mod Seeding
 pub mod Showing
 pub mod Pairing
 pub mod Objects
 pub mod Tracking
 pub mod Sane
 pub mod Runs
+pub mod Drawing
 pub mod Inspecting
 pub mod Clean
 pub mod Examples

@@ -15,7 +15,7 @@ use Rattle.words.specs.Word.{wordOf, wordAt, putWord}
 use Rattle.words.proofs.Stored.{put-length, put-after, word-same, word-stored, word-before, word-after}
 use Rattle.writing.specs.Overwrite.{overwrite}
 use Rattle.writing.proofs.Parts.{part-here, part-before, part-after}
-use Rattle.rules.specs.Metadata.{withGenerator, countAt, countOf, withCount, canaryOf, withCanary, bitmapOf}
+use Rattle.rules.specs.Metadata.{generatorOf, withGenerator, countAt, countOf, withCount, canaryOf, withCanary, bitmapOf}
 
 -- ---- the fields
 
@@ -27,6 +27,16 @@ module _ (m : List ℕ) (g : Generator) where
   -- a generator stored keeps the length, and what lies after the fields
   pub generator-length : length (withGenerator m g) ≡ length m
   generator-length = put-length (putWord m 0 (g .z)) 4 (g .w) ∙ put-length m 0 (g .z)
+
+  -- it is read back
+  pub generator-written : header ≤ length m → g .z < 2 ^ 32 → g .w < 2 ^ 32 → generatorOf (withGenerator m g) ≡ g
+  generator-written room z w =
+      let first : List ℕ = putWord m 0 (g .z) in
+      rw (
+        word-before first 4 (g .w) 0 (omega arith),
+        word-stored m 0 (g .z) (omega arith) z,
+        word-stored first 4 (g .w) (omega (arith, put-length m 0 (g .z))) w,
+      )
 
   generator-after : (p : ℕ) → 8 ≤ p → drop p (withGenerator m g) ≡ drop p m
   generator-after p h = put-after (putWord m 0 (g .z)) 4 (g .w) p h ∙ put-after m 0 (g .z) p (omega arith)
@@ -41,13 +51,16 @@ module _ (m : List ℕ) (g : Generator) where
   pub generator-bitmaps : (G : Layout) (c : ℕ) → bitmapOf G c (withGenerator m g) ≡ bitmapOf G c m
   generator-bitmaps G c = ap (take (bitmapLength G c)) (generator-after (bitmapAt G c) (omega (arith, bitmap-after G c)))
 
--- a count stored is read back, and leaves those of the other classes, the canary and the bitmaps
+-- a count stored is read back, and leaves the generator, those of the other classes, the canary and the bitmaps
 module _ (m : List ℕ) (c n : ℕ) where
   pub count-length : length (withCount m c n) ≡ length m
   count-length = put-length m (countAt c) n
 
   pub count-written : header ≤ length m → c < classes → n < 2 ^ 32 → countOf c (withCount m c n) ≡ n
   count-written room class h = word-stored m (countAt c) n (omega arith) h
+
+  pub count-generator : generatorOf (withCount m c n) ≡ generatorOf m
+  count-generator = rw (word-before m (countAt c) n 0 (omega arith), word-before m (countAt c) n 4 (omega arith))
 
   pub count-other : (d : ℕ) → (d ≡ c → ⊥) → countOf d (withCount m c n) ≡ countOf d m
   count-other d f = elim (decLt d c) [
@@ -61,13 +74,16 @@ module _ (m : List ℕ) (c n : ℕ) where
   pub count-bitmaps : (G : Layout) → c < classes → (d : ℕ) → bitmapOf G d (withCount m c n) ≡ bitmapOf G d m
   count-bitmaps G class = field-bitmaps m (countAt c) n (omega arith) G
 
--- a canary stored is read back, and leaves the counts and the bitmaps
+-- a canary stored is read back, and leaves the generator, the counts and the bitmaps
 module _ (m : List ℕ) (canary : ℕ) where
   pub canary-length : length (withCanary m canary) ≡ length m
   canary-length = put-length m canaryAt canary
 
   pub canary-written : header ≤ length m → canary < 2 ^ 32 → canaryOf (withCanary m canary) ≡ canary
   canary-written room h = word-stored m canaryAt canary (omega arith) h
+
+  pub canary-generator : generatorOf (withCanary m canary) ≡ generatorOf m
+  canary-generator = rw (word-before m canaryAt canary 0 (omega arith), word-before m canaryAt canary 4 (omega arith))
 
   pub canary-counts : (c : ℕ) → c < classes → countOf c (withCanary m canary) ≡ countOf c m
   canary-counts c h = word-before m canaryAt canary (countAt c) (omega arith)
@@ -85,6 +101,15 @@ module _ (G : Layout) (m : List ℕ) (fits : length m ≡ metadataLength G) (c :
   pub bitmap-length : length (bitmapOf G c m) ≡ bitmapLength G c
   bitmap-length = simp (length-take, length-drop) (omega (arith, bitmap-within))
 
+  -- what is written from its start on touches no field
+  field-kept : (b : List ℕ) (at : ℕ) → at + 4 ≤ header → wordAt (overwrite m (bitmapAt G c) b) at ≡ wordAt m at
+  field-kept b at h =
+      word-same m (overwrite m (bitmapAt G c) b) at
+      (part-before m (bitmapAt G c) b (omega (arith, bitmap-within)) at 4 (omega (arith, bitmap-after G c)))
+
+  pub bitmap-generator : (b : List ℕ) → generatorOf (overwrite m (bitmapAt G c) b) ≡ generatorOf m
+  bitmap-generator b = rw (field-kept b 0 (omega arith), field-kept b 4 (omega arith))
+
   -- a bitmap written is read back, and leaves those of the other classes
   module _ (b : List ℕ) (size : length b ≡ bitmapLength G c) where
     pub bitmap-written : bitmapOf G c (overwrite m (bitmapAt G c) b) ≡ b
@@ -100,17 +125,11 @@ module _ (G : Layout) (m : List ℕ) (fits : length m ≡ metadataLength G) (c :
               ap (take (bitmapLength G d)) (part-after m (bitmapAt G c) b before (bitmapAt G d) after)
         ]
 
-    -- nor does it touch a field
-    field-kept : (at : ℕ) → at + 4 ≤ header → wordAt (overwrite m (bitmapAt G c) b) at ≡ wordAt m at
-    field-kept at h =
-        word-same m (overwrite m (bitmapAt G c) b) at
-        (part-before m (bitmapAt G c) b (omega (arith, bitmap-within)) at 4 (omega (arith, bitmap-after G c)))
-
     pub bitmap-counts : (d : ℕ) → d < classes → countOf d (overwrite m (bitmapAt G c) b) ≡ countOf d m
-    bitmap-counts d h = field-kept (countAt d) (omega arith)
+    bitmap-counts d h = field-kept b (countAt d) (omega arith)
 
     pub bitmap-canary : canaryOf (overwrite m (bitmapAt G c) b) ≡ canaryOf m
-    bitmap-canary = field-kept canaryAt (omega arith)
+    bitmap-canary = field-kept b canaryAt (omega arith)
 
 -- the part of the metadata that the layout tells of: it lies in them, and is the bitmap
 module _ (G : Layout) (c : ℕ) {p : Part} (of : p ≡ partOf G c) where

@@ -7,7 +7,7 @@ use lib.ListN.{length}
 use Rattle.mwc.specs.Draw.{isUnusable}
 use Rattle.geometry.specs.declared.Layout.{Layout}
 use Rattle.answer.specs.declared.Refusal.{Refusal}
-use Rattle.answer.specs.declared.Refusal.the-variants.{ZeroSeed}
+use Rattle.answer.specs.declared.Refusal.the-variants.{UnusableSeed}
 use Rattle.request.specs.Parse.{parse}
 use Rattle.rules.specs.declared.Judged.{Judged}
 use Rattle.rules.specs.declared.Judged.the-variants.{Laid, Unfit}
@@ -56,5 +56,5 @@ opening-refused n m s = go (judge n (length m)) (isUnusable (s .seeds)) refl ref
   where
     go : (j : Judged) (t : Bool) → judge n (length m) ≡ j → isUnusable (s .seeds) ≡ t → Changeless m (opening n m s)
     go (Unfit r) t e f = rw (opening-unfit n m s e) (λ h. unserved-idle m r)
-    go (Laid G) true e f = rw (opening-unusable n m s e f) (λ h. unserved-idle m ZeroSeed)
+    go (Laid G) true e f = rw (opening-unusable n m s e f) (λ h. unserved-idle m UnusableSeed)
     go (Laid G) false e f = rw (opening-served n m s e f) (λ h. absurd (h refl))

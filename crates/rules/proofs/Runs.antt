@@ -31,11 +31,11 @@ module _ (n : ℕ) (region : regionOf n ≡ 0 → ⊥) where
   -- ---- one request
 
   module _ (m : List ℕ) (valid : Valid (layoutOf n) m) where
-    acts : (e : Entry) → let G = layoutOf n in
+    pub acts : (e : Entry) → let G = layoutOf n in
         call n m (e .request) (e .lent) ≡ calledBy G m (act G m (e .lent) (parse (e .request)))
     acts e = valid-acts n region m valid (e .lent) (parse (e .request))
 
-    step-valid : (e : Entry) → length (e .heap) ≡ n → Valid (layoutOf n) (stepOf m e .metadata)
+    pub step-valid : (e : Entry) → length (e .heap) ≡ n → Valid (layoutOf n) (stepOf m e .metadata)
     step-valid e h =
         let (x, r) = result (layoutOf n) m valid (e .lent) (parse (e .request)) in
         rw (h, acts e) (result-valid (layoutOf n) m valid r)

@@ -15,7 +15,7 @@ use Rattle.geometry.specs.Layout.{classes, regionOf, layoutOf, slots, metadataL
 use Rattle.geometry.proofs.Geometry.{laid}
 use Rattle.request.specs.declared.Parsed.{Parsed}
 use Rattle.answer.specs.declared.Refusal.{Refusal}
-use Rattle.answer.specs.declared.Refusal.the-variants.{ZeroSeed, HeapLength, MetadataLength, CorruptMetadata}
+use Rattle.answer.specs.declared.Refusal.the-variants.{UnusableSeed, HeapLength, MetadataLength, CorruptMetadata}
 use Rattle.answer.proofs.Numbers.{refusal-number}
 use Rattle.mwc.specs.Draw.{isUnusable}
 use Rattle.rules.specs.declared.Judged.{Judged}
@@ -123,7 +123,7 @@ module _ (n : ℕ) (m : List ℕ) (s : Setup) where
 
   module _ {G : Layout} (laid : judge n (length m) ≡ Laid G) where
     -- the seeds are not
-    pub opening-unusable : isUnusable (s .seeds) ≡ true → opening n m s ≡ unserved m ZeroSeed
+    pub opening-unusable : isUnusable (s .seeds) ≡ true → opening n m s ≡ unserved m UnusableSeed
     unfolding opening
     opening-unusable e = rw (laid, e)
 
@@ -145,7 +145,7 @@ module _ (n : ℕ) (m : List ℕ) (s : Setup) where
     ]
       where
         seeded : (t : Bool) → isUnusable (s .seeds) ≡ t → judge n (length m) ≡ Laid (layoutOf n) → opening n m s ≡ openedBy (layoutOf n) s
-        seeded true q laid = absurd (refusal-number ZeroSeed (rw (opening-unusable laid q) at e))
+        seeded true q laid = absurd (refusal-number UnusableSeed (rw (opening-unusable laid q) at e))
         seeded false q laid = opening-served laid q
 
     pub opened-fresh : opening n m s .metadata ≡ fresh (layoutOf n) s

@@ -10,7 +10,7 @@ use Rattle.request.specs.declared.Parsed.{Parsed}
 use Rattle.request.specs.declared.Parsed.the-variants.{Whole}
 use Rattle.request.specs.Parse.{parse}
 use Rattle.answer.specs.declared.Refusal.{Refusal}
-use Rattle.answer.specs.declared.Refusal.the-variants.{ZeroSeed}
+use Rattle.answer.specs.declared.Refusal.the-variants.{UnusableSeed}
 use Rattle.answer.specs.Reply.{Reply, served, refusedBy}
 use Rattle.answer.specs.Checks.{_when_, checked}
 use Rattle.rules.specs.declared.View.{View}
@@ -57,7 +57,7 @@ openedBy G s = record { answer = served 0; metadata = fresh G s; heap = λ h. fi
 unfoldable pub opening : ℕ → List ℕ → Setup → Call
 opening heapBytes m s =
     onceLaid (unserved m)
-    (λ G. checked (unserved m) (ZeroSeed when isUnusable (s .seeds) ∷ []) (openedBy G s))
+    (λ G. checked (unserved m) (UnusableSeed when isUnusable (s .seeds) ∷ []) (openedBy G s))
     (judge heapBytes (length m))
 
 -- ---- one request after another

@@ -6,9 +6,9 @@
 
 use poheldu_tests::compare::{self, Lent, Tester, Twin};
 use poheldu_tests::compare::{
-    CORRUPT_KINDS, INSPECTION_KINDS, LISTED_KINDS, READ_KINDS, STRING_KINDS,
+    CORRUPT_KINDS, INSPECTION_KINDS, LISTED_KINDS, READ_KINDS, SEED_KINDS, STRING_KINDS,
 };
-use poheldu_tests::inputs::{self, Shape, CLASSES, STUCK_DRAW, STUCK_W, STUCK_Z};
+use poheldu_tests::inputs::{self, Shape, CLASSES, FROZEN_DRAW, FROZEN_W, FROZEN_Z};
 use poheldu_tests::random::Random;
 use poheldu_tests::reference::{Answer, Part};
 use std::time::{SystemTime, UNIX_EPOCH};
@@ -148,6 +148,7 @@ fn report(tester: &Tester) {
     report_kinds("refused with 13", &CORRUPT_KINDS, &tester.corrupt);
     report_kinds("inspections", &INSPECTION_KINDS, &tester.inspections);
     report_kinds("slots listed", &LISTED_KINDS, &tester.listed);
+    report_kinds("openings", &SEED_KINDS, &tester.seeds);
     println!(
         "inspections where nobody else wrote: {}, made again with other bytes elsewhere: {}",
         tester.clean, tester.changed
@@ -174,8 +175,8 @@ fn report_kinds(what: &str, kinds: &[&str], counts: &[u64]) {
 }
 
 /// Every refusal number, operation, walk, NULL, kind of read, of string, of
-/// refusal with 13, of inspection and of listed slot, and size at an edge has to
-/// occur.
+/// refusal with 13, of inspection, of listed slot and of seeds, and size at an
+/// edge has to occur.
 fn require_coverage(tester: &Tester) {
     let seen = [
         &tester.counts[..],
@@ -189,6 +190,7 @@ fn require_coverage(tester: &Tester) {
         &tester.corrupt,
         &tester.inspections,
         &tester.listed,
+        &tester.seeds,
         &[tester.clean, tester.changed],
         &[tester.walks, tester.wraps],
     ];
@@ -448,7 +450,10 @@ fn sizes_at_the_edge(tester: &mut Tester) {
 /// Every draw tests the same slot: the second allocation walks round the end.
 fn walk(tester: &mut Tester) {
     let mut session = Session::counting(Shape { region: 4_096 });
-    session.open(tester, 1, STUCK_W);
+    session.open(tester, 1, 1);
+    let mut metadata = session.metadata.bytes().to_vec();
+    inputs::set_seeds(&mut metadata, 1, FROZEN_W[0]);
+    session.replace_metadata(&metadata);
     for value in [20_352, 16_384, 16_512] {
         let answer = session.run(tester, ALLOCATE, 128);
         expect(answer == Answer { number: 0, value }, "the walk");
@@ -759,9 +764,7 @@ fn too_long(tester: &mut Tester) {
 /// the first and last byte of each region with all bits set.
 fn edges(tester: &mut Tester, shape: Shape) {
     let mut session = Session::counting(shape);
-    for (z, w) in [(0, 0), (0, 5), (5, 0), (STUCK_Z, STUCK_W)] {
-        session.open(tester, z, w);
-    }
+    edge_seeds(tester, &mut session);
     for length in [
         shape.heap_len(),
         shape.heap_len() + 1,
@@ -785,6 +788,28 @@ fn edges(tester: &mut Tester, shape: Shape) {
             session.run(tester, operation, offset);
         }
         session.read_twice(tester, offset, 4, PAGE);
+    }
+}
+
+/// Seeds that freeze are refused, those next to them are not, and none for what
+/// freezes in the other half.
+fn edge_seeds(tester: &mut Tester, session: &mut Session) {
+    let refused = Answer {
+        number: 1,
+        value: 0,
+    };
+    for (z, w) in [(0, 0), (0, 5), (5, 0), (FROZEN_Z[0], 5), (FROZEN_Z[0], 0)] {
+        expect(session.open(tester, z, w) == refused, "an unusable seed");
+    }
+    for w in FROZEN_W {
+        expect(session.open(tester, 5, w) == refused, "a frozen w");
+        for (z, w) in [(w, w - 1), (w, w + 1), (w, FROZEN_Z[0])] {
+            let answer = session.open(tester, z, w);
+            expect(answer.number == 0, "seeds next to a frozen one");
+        }
+    }
+    for z in [FROZEN_Z[0] - 1, FROZEN_Z[0] + 1] {
+        expect(session.open(tester, z, 5).number == 0, "z next to 9068FFFF");
     }
 }
 
@@ -845,11 +870,15 @@ fn counts_above_half(tester: &mut Tester, shape: Shape) {
 fn counts_of_half(tester: &mut Tester, shape: Shape) {
     let mut session = Session::counting(shape);
     let mut metadata = inputs::all_live(shape);
-    inputs::set_seeds(&mut metadata, STUCK_Z, STUCK_W);
+    inputs::set_seeds(&mut metadata, FROZEN_Z[0], FROZEN_W[0]);
     session.replace_metadata(&metadata);
     for class in 0..CLASSES {
         let (slots, size) = (shape.slots(class), inputs::slot_size(class));
-        let index = if slots > 1 { STUCK_DRAW % slots - 1 } else { 0 };
+        let index = if slots > 1 {
+            FROZEN_DRAW % slots - 1
+        } else {
+            0
+        };
         let offset = (class * shape.region + index * size) as u32;
         let size = size as u32;
         let (full, freed, taken) = match slots {
@@ -1160,10 +1189,7 @@ fn foreign_start(rng: &mut Random, session: &mut Session) {
 }
 
 fn random_open(tester: &mut Tester, rng: &mut Random, session: &mut Session) {
-    let (z, w) = (
-        inputs::seed_word(rng, STUCK_Z),
-        inputs::seed_word(rng, STUCK_W),
-    );
+    let (z, w) = inputs::seeds(rng);
     session.open_with(tester, z, w, inputs::pattern(rng));
 }
 

@@ -1,8 +1,10 @@
 //! One request after another, for a count of instructions by valgrind's callgrind (tests/instructions):
 //! `instructions ours|second REQUEST` serves the request once, on a heap with regions of 4,096 bytes;
-//! call-N is no request but a read of N bytes by its own call, and inspect an inspection that lists nothing.
+//! call-N is no request but a read of N bytes by its own call, inspect an inspection that lists nothing,
+//! and open an opening, which open-zero and open-frozen refuse for their z and their w.
 
 use poheldu_tests::capi;
+use poheldu_tests::inputs::FROZEN_W;
 use poheldu_tests::reference::{self, Answer, Part};
 use std::hint::black_box;
 use std::process::ExitCode;
@@ -31,6 +33,12 @@ fn second_read(heap: &[u8], metadata: &[u8], offset: u32, count: u32, page: &[u8
 #[inline(never)]
 fn second_inspect(heap: &[u8], metadata: &[u8], list: &mut [u32]) -> Answer {
     reference::inspect(heap, metadata, list)
+}
+
+/// Counted as `poheldu_open` is.
+#[inline(never)]
+fn second_open(heap: &mut [u8], metadata: &mut [u8], z: u32, w: u32, pattern: u32) -> Answer {
+    reference::open(heap, metadata, z, w, pattern)
 }
 
 fn request(operation: u32, argument: u32, count: u32) -> [u8; 16] {
@@ -72,6 +80,16 @@ fn called(word: &str) -> Option<u32> {
     word.strip_prefix("call-")?.parse().ok()
 }
 
+/// The seeds of an opening, where the word names one.
+fn seeds(word: &str) -> Option<(u32, u32)> {
+    match word {
+        "open" => Some((1, 1)),
+        "open-zero" => Some((0, 1)),
+        "open-frozen" => Some((1, FROZEN_W[0])),
+        _ => None,
+    }
+}
+
 fn main() -> ExitCode {
     let words: Vec<String> = std::env::args().skip(1).collect();
     let (ours, word) = match &words[..] {
@@ -87,6 +105,10 @@ fn main() -> ExitCode {
         let read = if ours { capi::read } else { second_read };
         let (at, count) = black_box((at, count));
         black_box(read(&heap, &metadata, at, count, &[]));
+    } else if let Some((z, w)) = seeds(word) {
+        let open = if ours { capi::open } else { second_open };
+        let (z, w) = black_box((z, w));
+        black_box(open(&mut heap, &mut metadata, z, w, 0));
     } else if word == "inspect" {
         let inspect = if ours { capi::inspect } else { second_inspect };
         black_box(inspect(&heap, &metadata, black_box(&mut [0; 8])));
