@@ -13,7 +13,7 @@ use borrow.Author.Tests.{lt-ltb, le-ltb, eq-eqb, ne-eqb, eqb-true, ltb-true, leb
 use Rattle.search.specs.First.{first}
 use Rattle.search.proofs.First.{first-found, first-past, first-none, first-range, first-passes, first-before}
 use Rattle.geometry.specs.declared.Layout.{Layout}
-use Rattle.geometry.specs.Layout.{classes, longestRegion, regionOf, slotSize, classOf, header, bitmapAt, bitmapLength}
+use Rattle.geometry.specs.Layout.{classes, longestRegion, regionOf, slotSize, longestSlot, classOf, header, bitmapAt, bitmapLength}
 
 -- ---- region lengths
 
@@ -72,9 +72,6 @@ slot-size-whole G c = elim (decLt c classes) [
 ]
 
 -- no class's slots are longer than the last one's
-abbrev pub longestSlot : ℕ
-longestSlot = 16_384
-
 pub slot-size-le : (G : Layout) (c : ℕ) → slotSize G c ≤ longestSlot
 slot-size-le G c = elim (decLt c classes) [
   | yes h ↦ rw (slot-size-of G h) (omega (arith, pow-mono {i = c} {j = 11} (omega arith)))

@@ -55,10 +55,12 @@ slot-located G c i x h l u =
     let rest : x % G .region ≡ i * s + into = ap (λ (y : ℕ). y % G .region) split ∙ digits-mod c below in
     (class, rw (class, rest) (digits-div i within))
 
--- an offset that lies no way into its slot is where the slot starts
+-- an offset lies as far after its slot's start as it lies into the slot; no way into it, it is where the slot starts
+pub located-at : (G : Layout) (x : ℕ) → x ≡ slotStart G (locate G x .class) (locate G x .slot) + locate G x .into
+located-at G x = omega (arith, div-add-mod' x (G .region), div-add-mod' (x % G .region) (slotSize G (x / G .region)))
+
 pub located-start : (G : Layout) (x : ℕ) → locate G x .into ≡ 0 → x ≡ slotStart G (locate G x .class) (locate G x .slot)
-located-start G x e =
-    omega (arith, div-add-mod' x (G .region), div-add-mod' (x % G .region) (slotSize G (x / G .region)))
+located-start G x e = omega (arith, located-at G x)
 
 -- where an offset lies in a slot, it lies before the slot's end, and the slot ends within the heap
 module _ (G : Layout) (offset : ℕ) (some : locate G offset .slot < slots G (locate G offset .class)) where

@@ -37,6 +37,10 @@ heapLength G = classes * G .region
 unfoldable pub slotSize : Layout → ℕ → ℕ
 slotSize G c = elim (ltb c classes) [ true ↦ 8 * 2 ^ c | false ↦ 0 ]
 
+-- the bytes of a slot of the last class, the longest
+abbrev pub longestSlot : ℕ
+longestSlot = 16_384
+
 -- the paper's N
 abbrev pub slots : Layout → ℕ → ℕ
 slots G c = G .region / slotSize G c

@@ -16,8 +16,8 @@ use Rattle.search.proofs.First.{first-found, first-skip, first-none, first-rang
 use Rattle.writing.proofs.Parts.{drop-take}
 use Rattle.geometry.specs.declared.Layout.{Layout}
 use Rattle.geometry.specs.declared.Location.{Location}
-use Rattle.geometry.specs.Layout.{classes, heapLength, slotSize, slots, slotStart, locate}
-use Rattle.geometry.proofs.Geometry.{longestSlot, slot-size-some, slot-size-whole, slot-size-le}
+use Rattle.geometry.specs.Layout.{classes, heapLength, slotSize, longestSlot, slots, slotStart, locate}
+use Rattle.geometry.proofs.Geometry.{slot-size-some, slot-size-whole, slot-size-le}
 use Rattle.geometry.proofs.Slots.{slots-end-le, slot-size-pos, slot-within, slot-located, slot-start-into, located-start}
 use Rattle.rules.specs.Metadata.{canaryOf, bitmapOf}
 use Rattle.rules.specs.Canary.{hasDamage}

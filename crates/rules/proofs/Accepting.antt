@@ -8,8 +8,8 @@ use lib.Dec.{leb, ltb, eqb}
 use borrow.Author.Tests.{eq-eqb, eqb-true}
 use Rattle.search.specs.First.{first}
 use Rattle.geometry.specs.declared.Layout.{Layout}
-use Rattle.geometry.specs.Layout.{classes, classOf, slotSize, slots}
-use Rattle.geometry.proofs.Geometry.{longestSlot, class-none}
+use Rattle.geometry.specs.Layout.{classes, classOf, slotSize, longestSlot, slots}
+use Rattle.geometry.proofs.Geometry.{class-none}
 use Rattle.answer.specs.declared.Refusal.the-variants.{UnsupportedSize}
 use Rattle.rules.specs.Metadata.{countOf}
 use Rattle.rules.specs.Outcome.{Outcome, refused, reply}

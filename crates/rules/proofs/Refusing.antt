@@ -13,21 +13,11 @@ use Rattle.rules.specs.declared.Judged.{Judged}
 use Rattle.rules.specs.declared.Judged.the-variants.{Laid, Unfit}
 use Rattle.rules.specs.Judge.{judge, admit}
 use Rattle.rules.specs.Open.{Setup}
-use Rattle.rules.specs.View.{noView}
 use Rattle.rules.specs.Outcome.{Outcome, refused, allocated, freed, told, shown}
 use Rattle.rules.specs.Serve.{Lent, act}
-use Rattle.rules.specs.Call.{Call, calledBy, unserved, call, opening}
+use Rattle.rules.specs.Call.{calledBy, unserved, call, opening}
+use Rattle.rules.specs.Changing.{Idle, Changeless}
 use Rattle.rules.proofs.Serving.{serving-unfit, serving-acts, opening-unfit, opening-unusable, opening-served}
-
--- a call on metadata m without effect
-pub record Idle (m : List ℕ) (c : Call) : Type 0 where
-  pub value : c .answer .value ≡ 0
-  pub metadata : c .metadata ≡ m
-  pub heap : (h : List ℕ) → c .heap h ≡ h
-  pub view : c .view ≡ noView
-
-abbrev Changeless : List ℕ → Call → Type 0
-Changeless m c = (c .answer .number ≡ 0 → ⊥) → Idle m c
 
 unserved-idle : (m : List ℕ) (r : Refusal) → Idle m (unserved m r)
 unserved-idle m r = record { value = refl; metadata = refl; heap = λ h. refl; view = refl }

@@ -20,7 +20,7 @@ use Rattle.rules.specs.declared.Place.the-variants.{Heap, Page}
 use Rattle.rules.specs.declared.View.{View}
 use Rattle.rules.specs.declared.Judged.{Judged}
 use Rattle.rules.specs.declared.Judged.the-variants.{Laid, Unfit}
-use Rattle.rules.specs.View.{bytesFrom, viewBytes}
+use Rattle.rules.specs.View.{bytesFrom, viewBytes, EndsWithin, Lies}
 use Rattle.rules.specs.Judge.{admit}
 use Rattle.rules.specs.Outcome.{Outcome, shown, reply, viewOf}
 use Rattle.rules.specs.Object.{space}
@@ -31,16 +31,8 @@ use Rattle.rules.proofs.Space.{space-within}
 use Rattle.rules.proofs.Results.{Comes, refuses, serves, read-comes}
 use Rattle.rules.proofs.Serving.{admit-fits, serving-unfit, serving-acts}
 
--- n bytes from a place on are bytes of a heap and a page of these lengths
-abbrev Ends : ℕ → ℕ → ℕ → Place → Type 0
-Ends heapBytes pageBytes n (Heap offset) = offset + n ≤ heapBytes
-Ends heapBytes pageBytes n Page = n ≤ pageBytes
-
-abbrev pub Lies : ℕ → ℕ → View → Type 0
-Lies heapBytes pageBytes v = Ends heapBytes pageBytes (v .len) (v .place)
-
--- so there are as many
-from-length : (heap page : List ℕ) (n : ℕ) (p : Place) → Ends (length heap) (length page) n p
+-- what lies in them is as long as the view says
+from-length : (heap page : List ℕ) (n : ℕ) (p : Place) → EndsWithin (length heap) (length page) n p
     → length (take n (bytesFrom p heap page)) ≡ n
 from-length heap page n (Heap offset) h = simp (length-take, length-drop) (omega arith)
 from-length heap page n Page h = simp length-take (omega arith)

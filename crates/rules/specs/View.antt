@@ -1,5 +1,5 @@
 -- Bytes that are shown without a copy: a part of the heap, or of the page that is lent beside it.
-use Prim.Native.Nat.{ℕ}
+use Prim.Native.Nat.{ℕ, _+_, _≤_}
 use mathlib.Core.List.{List}
 use lib.ListN.{take, drop}
 use Rattle.rules.specs.declared.Place.{Place}
@@ -20,3 +20,12 @@ viewBytes v heap page = take (v .len) (bytesFrom (v .place) heap page)
 -- the empty part of the page
 abbrev pub noView : View
 noView = view Page 0
+
+-- n bytes from a place on end within a heap and a page of these lengths
+abbrev pub EndsWithin : ℕ → ℕ → ℕ → Place → Type 0
+EndsWithin heapBytes pageBytes n (Heap offset) = offset + n ≤ heapBytes
+EndsWithin heapBytes pageBytes n Page = n ≤ pageBytes
+
+-- so all bytes of a view are theirs
+abbrev pub Lies : ℕ → ℕ → View → Type 0
+Lies heapBytes pageBytes v = EndsWithin heapBytes pageBytes (v .len) (v .place)
