@@ -18,3 +18,5 @@ pub mod Drawing
 pub mod Inspecting
 pub mod Clean
 pub mod Examples
+pub mod Changing
+pub mod ChangingExamples
