@@ -50,8 +50,9 @@
  *            a heap with regions of 16,384 bytes and more, the last slot ends where the heap does.
  * Null       A pointer may be null where its length is 0; one to a poheldu_heap is never null.
  * Overlap    No two buffers of one call overlap where one of them is written. The copies with plain
- *            arguments (poheldu_copy_bytes and the five that follow it) take care of a source that
- *            lies in the heap; poheldu_serve leaves that to the caller.
+ *            arguments (poheldu_copy_bytes, poheldu_copy_string, poheldu_copy_padded, and the same
+ *            with _at) take care of a source that lies in the heap; poheldu_serve leaves that to
+ *            the caller.
  * Threads    Calls on the same heap or metadata come one after another; calls on different ones may
  *            run at the same time.
  * Numbers    A size, offset or count that does not fit into 32 bits is answered as any other that
@@ -393,7 +394,8 @@ POHELDU_NODISCARD poheldu_answer poheldu_inspect(const uint8_t *heap, size_t hea
 
 /*
  * A vote of replicas on a block of output: the content that most replicas share wins, if two or
- * more share it; at equal numbers that of the lowest-numbered replica among those tied. Refuses
+ * more share it; at equal numbers that of the lowest-numbered replica among those tied. Replicas
+ * open their heaps with seeds and a pattern of their own (poheldu_open says why). Refuses
  * INVALID_VOTE, NO_AGREEMENT.
  *
  * blocks, blocks_len  the replicas' blocks, one after another: replicas times block_len bytes
@@ -447,13 +449,13 @@ POHELDU_NODISCARD uint32_t poheldu_stored_pattern(size_t heap_len, const uint8_t
 /* ---- Seeds
  *
  * The draws, and so the slots of all objects, follow from the seeds. Take both halves at random, as
- * poheldu_random_seeds does, and never z alone: where regions are shorter than 1,048,576 bytes, w
- * alone chooses slots (there z shows too, in the class of 8 bytes), so that a new z with the same w
- * places everything as before. Take new ones for each run and for each replica in it, so that a
- * mistake which does harm in one layout need not do the same in another.
+ * poheldu_random_seeds does, and never z alone: a new z with the same w places everything as
+ * before, but for objects of up to 8 bytes in regions of 1,048,576, where z shows in one bit. Take
+ * new ones for each run and for each replica in it, so that a mistake which does harm in one layout
+ * need not do the same in another.
  *
  * To repeat a run, note both halves, the length of the regions and the pattern: with these, the
- * same calls get the same answers, and a program that reads what it must not reads the same bytes.
+ * same calls get the same answers, and a program that reads clear slots reads the same bytes.
  */
 
 /* The two halves of the generator that draws slots. */

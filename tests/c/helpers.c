@@ -853,6 +853,32 @@ static void seeds_drawn(void)
     EXPECT(are(drawn_from(refused + 1, 4), 5, 6) && asked == 4);
 }
 
+/* How many of some objects of a size lie elsewhere under another z with the same w. */
+static unsigned moved_by_z(size_t region, size_t size)
+{
+    enum { OBJECTS = 64 };
+    const poheldu_seeds one = {0x12345678, 0x9ABCDEF1}, other = {0xFEDCBA98, 0x9ABCDEF1};
+    const poheldu_heap h = opened(region);
+    uint32_t offsets[OBJECTS];
+    unsigned moved = 0;
+    EXPECT(is(poheldu_open_heap(&h, one, PATTERN), POHELDU_SERVED, 0));
+    for (int i = 0; i < OBJECTS; i++)
+        offsets[i] = poheldu_allocate_at(&h, size).value;
+    EXPECT(is(poheldu_open_heap(&h, other, PATTERN), POHELDU_SERVED, 0));
+    for (int i = 0; i < OBJECTS; i++)
+        moved += poheldu_allocate_at(&h, size).value != offsets[i];
+    closed(h);
+    return moved;
+}
+
+/* The other half alone places nothing elsewhere, but for the smallest objects in the longest regions. */
+static void seeds_by_half(void)
+{
+    EXPECT(moved_by_z(POHELDU_SMALLEST_REGION, 8) == 0 && moved_by_z(65536, 8) == 0);
+    EXPECT(moved_by_z(POHELDU_LARGEST_REGION / 2, 8) == 0 && moved_by_z(POHELDU_LARGEST_REGION, 9) == 0);
+    EXPECT(moved_by_z(POHELDU_LARGEST_REGION, 8) > 0);
+}
+
 /* ---- macros */
 
 typedef uint8_t heap_array[POHELDU_HEAP_BYTES(1024)], metadata_array[POHELDU_METADATA_BYTES(1 << 12)];
@@ -906,6 +932,7 @@ int main(void)
     frees_fill();
     seeds_judged();
     seeds_drawn();
+    seeds_by_half();
     looks_everywhere();
     destinations_outside();
     ends_of_texts();

@@ -15,7 +15,7 @@ none-requires : tie.Need-none-requires
 none-requires c κs = search needs
 
 returns : tie.Need-returns
-returns c = c .none .ensures ∙ slot-none _ _ _ (c .before .before .slots .ensures .0) (c .before .if1 .taken)
+returns c = c .none .ensures ∙ slot-none _ _ _ (c .before .before .slots .ensures .0) (omega arith)
 
 slot-size-requires : tie.Need-slot-size-requires
 slot-size-requires c κs = search needs
@@ -31,7 +31,7 @@ abbrev small : (c : tie.After-wide)
     × (args .number * size + size ≤ longestRegion)
 small c =
     let found = c .before .before .before in
-    slot-small _ _ _ (found .slots .ensures .0) (c .before .before .if1 .left) (c .wide .ensures .0) (c .before .slot-size .ensures) (found .before .pre)
+    slot-small _ _ _ (found .slots .ensures .0) (omega arith) (c .wide .ensures .0) (c .before .slot-size .ensures) (found .before .pre)
 
 mul-start : tie.Need-mul-start
 mul-start c = omega (arith, small c)
@@ -57,7 +57,7 @@ cast-t13 c = omega (arith, small c)
 returns-2 : tie.Need-returns-2
 returns-2 c =
     let found = c .before .before .before in
-    sym (slot-some _ _ _ (found .slots .ensures .0) (c .before .before .if1 .left) (c .wide .ensures .0) (c .before .slot-size .ensures))
+    sym (slot-some _ _ _ (found .slots .ensures .0) (omega arith) (c .wide .ensures .0) (c .before .slot-size .ensures))
 
 pub numbered-spec : {M : Type 1} → statement M
 numbered-spec =
