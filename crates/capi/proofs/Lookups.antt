@@ -11,7 +11,6 @@ use lib.Dec.{ltb}
 use Rattle.geometry.specs.declared.Layout.{Layout}
 use Rattle.geometry.specs.Layout.{classes, longestRegion, slotSize, slots, slotStart, locate}
 use Rattle.geometry.proofs.Slots.{slots-class, slot-within, slot-located, into-lt}
-use Rattle.capi.specs.declared.PohelduSlot.{PohelduSlot}
 use Rattle.capi.specs.Slots.{noSlot, slotOf, slotAt, slotsBefore, allSlots}
 
 module _ (G : Layout) (c i : ℕ) {n : ℕ} (has : n ≡ slots G c) where
