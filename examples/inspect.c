@@ -2,12 +2,15 @@
  * The service engineers' inspection of a decoder that writes where it has no object. It copies names without a look at
  * their length, past the end of their objects, and corrects a signal that it has withdrawn, after the free of its
  * object. Nothing of that shows in what it decodes. But clear slots hold a pattern: the inspection finds those that do
- * not any more, and the program names them, with what was written there, and draws a map of the heap.
+ * not any more, and the program names them, with what was written there, and draws a map of the heap. The seeds are new
+ * ones, or two noted ones as arguments, with which all lies where it lay.
  */
 #include "poheldu.h"
 
 #include <ctype.h>
+#include <inttypes.h>
 #include <stdio.h>
+#include <stdlib.h>
 #include <string.h>
 
 enum { REGION = 4096, SIGNALS = 12, WITHDRAWN = 4, NAME = 16, SHOWN = 16, WIDTH = 64 };
@@ -48,30 +51,30 @@ struct found {
 /* Decodes a signal; 0 where the heap has no room for it. */
 static int decode(const poheldu_heap *h, struct signal s, struct decoded *d)
 {
-    d->place = poheldu_new(h, sizeof *d->place);
-    d->name = poheldu_new(h, NAME);
-    d->track = poheldu_new(h, s.points * sizeof *d->track);
+    d->place = poheldu_allocate(h, sizeof *d->place);
+    d->name = poheldu_allocate(h, NAME);
+    d->track = poheldu_allocate(h, s.points * sizeof *d->track);
     if (d->place == NULL || d->name == NULL || d->track == NULL)
         return 0;
     d->place->minute = s.minute;
     d->place->metres = s.metres;
-    strcpy(d->name, s.name); /* the first fault: poheldu_strcpy would end where the object does */
+    strcpy(d->name, s.name); /* the first fault: poheldu_copy_string would end where the object does */
     memset(d->track, 0, s.points * sizeof *d->track);
     return 1;
 }
 
 static void withdraw(const poheldu_heap *h, struct decoded d)
 {
-    poheldu_delete(h, d.place);
-    poheldu_delete(h, d.name);
-    poheldu_delete(h, d.track);
+    poheldu_free(h, d.place);
+    poheldu_free(h, d.name);
+    poheldu_free(h, d.track);
 }
 
 /* ---- the engineers' program */
 
 static int is_live(const poheldu_heap *h, poheldu_slot s)
 {
-    return poheldu_remaining(h, s.start).value > 0;
+    return poheldu_remaining_at(h, s.start).value > 0;
 }
 
 static int is_found(const struct found *found, poheldu_slot s)
@@ -95,14 +98,21 @@ static void show(poheldu_view v)
     printf("\n");
 }
 
-/* A slot that was written to. Where the one before it is live, its object is the first to suspect. */
+/*
+ * A slot that was written to. Where the slot that has the byte before it is live, its object is the first to suspect:
+ * that may be the last of the class before.
+ */
 static void name_slot(const poheldu_heap *h, poheldu_slot s)
 {
     const poheldu_view stray = poheldu_stray_bytes(h, s);
     const size_t first = (size_t)(stray.bytes - h->heap) - s.start;
-    const int behind = s.number > 0 && is_live(h, poheldu_slot_of(h, s.size_class, s.number - 1));
-    printf("class %u, slot %u (%u bytes at %u), %s: bytes %zu to %zu\n", s.size_class, s.number, s.len, s.start,
-           behind ? "behind an object" : "behind none", first, first + stray.len - 1);
+    const poheldu_slot before = poheldu_slot_at(h, (size_t)s.start - 1); /* none before the first */
+    printf("class %u, slot %u (%u bytes at %u): bytes %zu to %zu, ", s.size_class, s.number, s.len, s.start, first,
+           first + stray.len - 1);
+    if (before.len > 0 && is_live(h, before))
+        printf("behind the object of class %u at %u\n", before.size_class, before.start);
+    else
+        printf("behind no object\n");
     show(stray);
 }
 
@@ -138,7 +148,7 @@ static void draw(const poheldu_heap *h, const struct found *found)
 static int inspect(const poheldu_heap *h)
 {
     static struct found found;
-    const poheldu_answer a = poheldu_check(h, found.slots, POHELDU_ALL_SLOTS(REGION));
+    const poheldu_answer a = poheldu_inspect_heap(h, found.slots, POHELDU_ALL_SLOTS(REGION));
     if (a.number != POHELDU_SERVED) {
         fprintf(stderr, "inspection: %s\n", poheldu_name(a.number));
         return 0;
@@ -151,7 +161,36 @@ static int inspect(const poheldu_heap *h)
     return 1;
 }
 
-int main(void)
+/* A half of noted seeds, as it was printed; 0, which opening refuses, where it is no such number. */
+static uint32_t noted(const char *text)
+{
+    char *end;
+    const unsigned long half = strtoul(text, &end, 16);
+    return *end == '\0' && half <= UINT32_MAX ? (uint32_t)half : 0;
+}
+
+/* Opens a heap with new seeds, or with two noted ones, and says on standard error which; 0 where that is refused. */
+static int open_heap(const poheldu_heap *h, int count, char **arguments)
+{
+    poheldu_seeds s = poheldu_random_seeds();
+    if (count != 1 && count != 3) {
+        fprintf(stderr, "usage: %s [z w]\n", arguments[0]);
+        return 0;
+    }
+    if (count == 3) {
+        s.z = noted(arguments[1]);
+        s.w = noted(arguments[2]);
+    }
+    const poheldu_answer opened = poheldu_open_heap(h, s, PATTERN);
+    if (opened.number != POHELDU_SERVED) {
+        fprintf(stderr, "opening: %s\n", poheldu_name(opened.number));
+        return 0;
+    }
+    fprintf(stderr, "seeds %08" PRIx32 " %08" PRIx32 "\n", s.z, s.w);
+    return 1;
+}
+
+int main(int count, char **arguments)
 {
     static const struct signal log[SIGNALS] = {
         {3, 41, "Anna", 3},   {5, 33, "Bertrand of the very long name", 30},
@@ -163,11 +202,8 @@ int main(void)
     static _Alignas(16) uint8_t heap[POHELDU_HEAP_BYTES(REGION)];
     static uint8_t metadata[POHELDU_METADATA_BYTES(REGION)];
     const poheldu_heap h = {heap, sizeof heap, metadata, sizeof metadata};
-    const poheldu_answer opened = poheldu_open(heap, sizeof heap, metadata, sizeof metadata, 7, 11, PATTERN);
-    if (opened.number != POHELDU_SERVED) {
-        fprintf(stderr, "opening: %s\n", poheldu_name(opened.number));
+    if (!open_heap(&h, count, arguments))
         return 1;
-    }
     struct decoded signals[SIGNALS];
     for (int i = 0; i < SIGNALS; i++)
         if (!decode(&h, log[i], &signals[i]))

@@ -1,11 +1,12 @@
 /*
- * Poheldu: a heap for C programs in which every function is proved.
+ * Poheldu: a heap for C programs, over a proved library.
  *
  * Objects are placed at random in size classes, wrong frees are refused and do no harm, copies and
  * reads end where their object ends, an inspection finds what was written past objects or after
  * their free, and replicas vote on their output. The caller lends two buffers and keeps them: the
  * heap, whose bytes the program's objects have, and its metadata, which only these functions write.
- * The library has no state of its own and allocates nothing.
+ * The library has no state of its own and allocates nothing. Its functions are proved; the small
+ * ones in this file, which call them, are plain C and tested.
  *
  * A first program:
  *
@@ -18,21 +19,22 @@
  *     int main(void)
  *     {
  *         const poheldu_heap h = {heap, sizeof heap, metadata, sizeof metadata};
- *         const poheldu_seeds s = poheldu_random_seeds();
- *         poheldu_answer a =
- *             poheldu_open(heap, sizeof heap, metadata, sizeof metadata, s.z, s.w, 0xB5E3C7A9);
- *         char *name = poheldu_new(&h, 8);
+ *         poheldu_answer a = poheldu_open_heap(&h, poheldu_random_seeds(), 0xB5E3C7A9);
+ *         char *name = poheldu_allocate(&h, 8);
  *         if (a.number != POHELDU_SERVED || name == NULL)
  *             return 1;
- *         a = poheldu_strcpy(&h, name, "Bertrand of the long name");
+ *         a = poheldu_copy_string(&h, name, "Bertrand of the long name");
  *         printf("%u bytes: %s\n", a.value, name);  // prints 8 bytes: Bertran
- *         poheldu_delete(&h, name);
- *         a = poheldu_delete(&h, name);
+ *         poheldu_free(&h, name);
+ *         a = poheldu_free(&h, name);
  *         printf("%s\n", poheldu_name(a.number));   // prints not allocated
  *         return 0;
  *     }
  *
  *     cc first.c $(pkg-config --cflags --libs poheldu) -o first
+ *
+ * Functions speak of objects by pointer; those whose names end in _at do the same by offset, the
+ * distance from the heap's first byte. A compiler warns where one is given what the other takes.
  *
  * What holds for every call; at a function stands only what differs:
  *
@@ -43,10 +45,14 @@
  * Buffers    A pointer and a length. They need no alignment, but for a list, which is one of
  *            uint32_t. Where objects are to be more than bytes, C asks for a heap without a
  *            declared type, as malloc gives; gcc and clang take an array of uint8_t all the same.
+ *            Keep a heap and its metadata apart, best with memory between them that nobody may
+ *            write: where metadata lie right behind a heap, a write past its end reaches them. In
+ *            a heap with regions of 16,384 bytes and more, the last slot ends where the heap does.
  * Null       A pointer may be null where its length is 0; one to a poheldu_heap is never null.
  * Overlap    No two buffers of one call overlap where one of them is written. The copies with plain
- *            arguments (poheldu_memcpy to poheldu_copy_padded) take care of a source that lies in
- *            the heap; poheldu_serve leaves that to the caller.
+ *            arguments (poheldu_copy_bytes, poheldu_copy_string, poheldu_copy_padded, and the same
+ *            with _at) take care of a source that lies in the heap; poheldu_serve leaves that to
+ *            the caller.
  * Threads    Calls on the same heap or metadata come one after another; calls on different ones may
  *            run at the same time.
  * Numbers    A size, offset or count that does not fit into 32 bits is answered as any other that
@@ -79,16 +85,43 @@ extern "C" {
 #define POHELDU_QUOTE_(text) #text
 
 /*
- * An answer that it makes no sense to drop; and a function that is compiled by itself, so that its
- * frame costs no caller.
+ * The number of the interface between a program and the library. It rises with every change after
+ * which an object compiled against the header before would go wrong: of a parameter or a struct, of
+ * what a macro computes, of how metadata are laid out; not where functions are added.
+ *
+ * An object that includes this header links with a library of the same number alone: it refers to a
+ * function whose name has the number, and which returns it. A linker's "undefined reference to
+ * poheldu_interface_N" means that object and library are of different versions; compile the one
+ * against the header of the other.
+ */
+#define POHELDU_INTERFACE 1
+#define poheldu_interface POHELDU_NUMBERED_(poheldu_interface_, POHELDU_INTERFACE)
+#define POHELDU_NUMBERED_(name, number) POHELDU_PASTED_(name, number)
+#define POHELDU_PASTED_(name, number) name##number
+
+/*
+ * An answer that it makes no sense to drop; a function that is compiled by itself, so that its
+ * frame costs no caller; what stays in an object and a program though nothing there uses it.
  */
 #if defined(__GNUC__)
 #define POHELDU_NODISCARD __attribute__((warn_unused_result))
 #define POHELDU_APART static __attribute__((noinline, unused))
+#if defined(__has_attribute)
+#if __has_attribute(retain)
+#define POHELDU_KEPT static __attribute__((used, retain)) /* by a linker's --gc-sections too */
+#endif
+#endif
+#if !defined(POHELDU_KEPT)
+#define POHELDU_KEPT static __attribute__((used))
+#endif
 #else
 #define POHELDU_NODISCARD
 #define POHELDU_APART static inline
+#define POHELDU_KEPT static
 #endif
+
+uint32_t poheldu_interface(void);
+POHELDU_KEPT uint32_t (*const poheldu_interface_wanted_)(void) = poheldu_interface;
 
 /* ---- Sizes
  *
@@ -198,6 +231,11 @@ typedef struct {
     uint32_t number, value, of_page, start;
 } poheldu_part;
 
+/* A slot, live or clear: its class and its number there, both from 0, and where its bytes lie. */
+typedef struct {
+    uint32_t size_class, number, start, len;
+} poheldu_slot;
+
 /*
  * number as above; mask: bit r for each winning replica r; value: how many they are; replica: one
  * of them. All 0 but the number on refusal.
@@ -258,9 +296,15 @@ static inline const char *poheldu_name(uint32_t number)
  * pattern                 what clear slots, those that are not live, hold for poheldu_inspect to
  *                         look for: four bytes, the number's, lowest first. Any will do, but a
  *                         stray write of just these bytes is not seen: take one that is unlikely in
- *                         data. 0xB5E3C7A9 is: its bytes are all different, none of them 0 or a
- *                         character, and as a pointer it leads nowhere. The pattern is stored in
- *                         the metadata, and so no secret from those who read these
+ *                         data. 0xB5E3C7A9, 0xA7D1F3E5 and 0xC9B3E1D7 are: the bytes of each are
+ *                         all different, none of them 0 or a character, and as a pointer each leads
+ *                         nowhere. The pattern is stored in the metadata, and so no secret from
+ *                         those who read these
+ *
+ * Replicas that vote take a pattern each, that differs from the others' in every byte, as these
+ * three do. What a faulty program reads of an object after its free, or of a new one before it
+ * writes it, is the pattern: with one for all, every replica reads the same there, and the vote
+ * passes what they make of it.
  *
  *     poheldu_answer a = poheldu_open(heap, sizeof heap, metadata, sizeof metadata, z, w, pattern);
  *     if (a.number != POHELDU_SERVED)
@@ -324,9 +368,11 @@ POHELDU_NODISCARD poheldu_part poheldu_read(const uint8_t *heap, size_t heap_len
  * slots are listed. Refuses HEAP_LENGTH, METADATA_LENGTH, CORRUPT_METADATA (a count above its
  * class's capacity, and nothing else), LIST_TOO_SHORT.
  *
- * It does not see what was written to a live slot, where nobody but its owner knows what belongs;
- * to a slot that was allocated and freed since; and to bytes outside slots. It is no request, and
- * requests answer the same whatever it would list.
+ * It does not see what was written to a live slot, where nobody but its owner knows what belongs:
+ * neither over its object, nor past the size that was asked for as long as it stays in the slot, as
+ * the last three bytes of an object of 5, which has 8. Nor what was written to a slot that was
+ * allocated and freed since, to bytes outside slots, or as the pattern has it. It is no request,
+ * and requests answer the same whatever it would list.
  *
  * heap, heap_len          read: this is the one call whose answer depends on the heap's bytes
  * metadata, metadata_len  read
@@ -348,7 +394,8 @@ POHELDU_NODISCARD poheldu_answer poheldu_inspect(const uint8_t *heap, size_t hea
 
 /*
  * A vote of replicas on a block of output: the content that most replicas share wins, if two or
- * more share it; at equal numbers that of the lowest-numbered replica among those tied. Refuses
+ * more share it; at equal numbers that of the lowest-numbered replica among those tied. Replicas
+ * open their heaps with seeds and a pattern of their own (poheldu_open says why). Refuses
  * INVALID_VOTE, NO_AGREEMENT.
  *
  * blocks, blocks_len  the replicas' blocks, one after another: replicas times block_len bytes
@@ -372,7 +419,44 @@ POHELDU_NODISCARD poheldu_verdict poheldu_vote(const uint8_t *blocks, size_t blo
  */
 POHELDU_NODISCARD size_t poheldu_metadata_length(size_t heap_len);
 
-/* ---- Seeds */
+/*
+ * Where slots lie, how many there are, and what clear ones hold. For programs that keep a heap's
+ * buffers as a poheldu_heap, poheldu_slot_of, poheldu_slot_at, poheldu_slot_count and
+ * poheldu_pattern are the same. Nothing is refused: where a request would be for HEAP_LENGTH or
+ * METADATA_LENGTH, the answer is 0 throughout.
+ *
+ * heap_len                the heap's length, whose bytes do not matter
+ * metadata, metadata_len  read
+ *
+ * The slot of a class with a number; len 0, and all else too, where there is none such. The slot
+ * that an offset lies in, at its start or further on; likewise where it lies in none. The number of
+ * slots in all classes. The pattern.
+ *
+ *     poheldu_slot s = poheldu_find_slot(sizeof heap, metadata, sizeof metadata, 640);
+ *     printf("class %u, slot %u of %zu\n", s.size_class, s.number,
+ *            poheldu_count_slots(sizeof heap, metadata, sizeof metadata));
+ */
+POHELDU_NODISCARD poheldu_slot poheldu_nth_slot(size_t heap_len, const uint8_t *metadata,
+                                                size_t metadata_len, uint32_t size_class,
+                                                uint32_t number);
+POHELDU_NODISCARD poheldu_slot poheldu_find_slot(size_t heap_len, const uint8_t *metadata,
+                                                 size_t metadata_len, uint32_t offset);
+POHELDU_NODISCARD size_t poheldu_count_slots(size_t heap_len, const uint8_t *metadata,
+                                             size_t metadata_len);
+POHELDU_NODISCARD uint32_t poheldu_stored_pattern(size_t heap_len, const uint8_t *metadata,
+                                                  size_t metadata_len);
+
+/* ---- Seeds
+ *
+ * The draws, and so the slots of all objects, follow from the seeds. Take both halves at random, as
+ * poheldu_random_seeds does, and never z alone: a new z with the same w places everything as
+ * before, but for objects of up to 8 bytes in regions of 1,048,576, where z shows in one bit. Take
+ * new ones for each run and for each replica in it, so that a mistake which does harm in one layout
+ * need not do the same in another.
+ *
+ * To repeat a run, note both halves, the length of the regions and the pattern: with these, the
+ * same calls get the same answers, and a program that reads clear slots reads the same bytes.
+ */
 
 /* The two halves of the generator that draws slots. */
 typedef struct {
@@ -397,11 +481,9 @@ POHELDU_NODISCARD static inline int poheldu_usable_seeds(poheldu_seeds seeds)
 }
 
 /*
- * New seeds that poheldu_open takes, from the system's random source (getrandom). Take new ones for
- * each run and for each replica in it, so that a mistake which does harm in one layout need not do
- * the same in another, and note them where a run may have to be repeated. Where the source fails,
- * both halves are 0, which poheldu_open refuses: its answer is all there is to check. From any
- * thread, at any time.
+ * New seeds that poheldu_open takes, from the system's random source (getrandom). Where the source
+ * fails, both halves are 0, which poheldu_open refuses: its answer is all there is to check. From
+ * any thread, at any time.
  *
  *     poheldu_seeds s = poheldu_random_seeds();
  *     poheldu_answer a = poheldu_open(heap, sizeof heap, metadata, sizeof metadata, s.z, s.w,
@@ -421,12 +503,7 @@ POHELDU_NODISCARD static inline poheldu_seeds poheldu_random_seeds(void)
     return none;
 }
 
-/* ---- Objects, by pointer
- *
- * Each is one request with plain arguments and, beside what it names, refuses HEAP_LENGTH,
- * METADATA_LENGTH and CORRUPT_METADATA first. POHELDU_OUT_OF_RANGE stands for every pointer that
- * does not lead into the heap, null among them.
- */
+/* ---- A heap's buffers as one thing */
 
 /* The buffers of one heap, lent to each call. */
 typedef struct {
@@ -437,34 +514,70 @@ typedef struct {
 } poheldu_heap;
 
 /*
- * A new object of size bytes, or null where poheldu_allocate, which says why, is refused. Its bytes
- * are what the slot held: the pattern, unless something wrote there. Size 0 gives an object of 8
- * bytes, so that null means a refusal alone.
+ * Opens a heap, as poheldu_open does, with the size classes that stand above.
  *
- *     struct signal *s = (struct signal *)poheldu_new(h, sizeof *s);
+ *     poheldu_answer a = poheldu_open_heap(h, poheldu_random_seeds(), pattern);
+ *     if (a.number != POHELDU_SERVED)
+ *         fprintf(stderr, "heap: %s\n", poheldu_name(a.number));
+ */
+POHELDU_NODISCARD static inline poheldu_answer poheldu_open_heap(const poheldu_heap *h,
+                                                                 poheldu_seeds seeds,
+                                                                 uint32_t pattern)
+{
+    return poheldu_open(h->heap, h->heap_len, h->metadata, h->metadata_len, seeds.z, seeds.w,
+                        pattern);
+}
+
+/*
+ * Inspects a heap, as poheldu_inspect does.
+ *
+ *     poheldu_answer a = poheldu_inspect_heap(h, list, list_len);
+ *     if (a.number == POHELDU_SERVED && a.value > 0)
+ *         fprintf(stderr, "%u slots were written to\n", a.value);
+ */
+POHELDU_NODISCARD static inline poheldu_answer poheldu_inspect_heap(const poheldu_heap *h,
+                                                                    uint32_t *list, size_t list_len)
+{
+    return poheldu_inspect(h->heap, h->heap_len, h->metadata, h->metadata_len, list, list_len);
+}
+
+/* ---- Objects, by pointer
+ *
+ * Each is one request with plain arguments and, beside what it names, refuses HEAP_LENGTH,
+ * METADATA_LENGTH and CORRUPT_METADATA first. POHELDU_OUT_OF_RANGE stands for every pointer that
+ * does not lead into the heap, null among them.
+ */
+
+/*
+ * A new object of size bytes, or null where poheldu_allocate_at, which says why, is refused. Its
+ * bytes are what the slot held: the pattern, unless something wrote there. Size 0 gives an object
+ * of 8 bytes, so that null means a refusal alone.
+ *
+ *     struct signal *s = (struct signal *)poheldu_allocate(h, sizeof *s);
  *     if (s == NULL)
  *         return;
  */
-POHELDU_NODISCARD static inline void *poheldu_new(const poheldu_heap *h, size_t size);
+POHELDU_NODISCARD static inline void *poheldu_allocate(const poheldu_heap *h, size_t size);
 
 /*
  * Frees the object that starts at p, and fills its slot with the pattern, all bytes of it. The
  * value is the slot's size. Refuses OUT_OF_RANGE, NOT_A_SLOT_START, NOT_ALLOCATED,
- * CORRUPT_METADATA, and then does no harm. Null is no object: nothing is done, and that is served
- * with value 0.
+ * CORRUPT_METADATA. Null is no object: nothing is done, and that is served with value 0. Since a
+ * free that is refused does no harm, and leaves nothing to be done, the answer may be dropped, as
+ * after free(); it is for those who look for wrong frees.
  *
- *     poheldu_delete(h, p);
+ *     poheldu_free(h, p);
  */
-static inline poheldu_answer poheldu_delete(const poheldu_heap *h, const void *p);
+static inline poheldu_answer poheldu_free(const poheldu_heap *h, const void *p);
 
 /*
  * The number of bytes from p to the end of the live object that p points into, which may be more
  * than were asked for; 0 where p points into none, outside the heap or is null.
  *
- *     if (poheldu_usable_size(h, p) < 100)
+ *     if (poheldu_remaining(h, p) < 100)
  *         return;
  */
-POHELDU_NODISCARD static inline size_t poheldu_usable_size(const poheldu_heap *h, const void *p);
+POHELDU_NODISCARD static inline size_t poheldu_remaining(const poheldu_heap *h, const void *p);
 
 /* Bytes of an object or of a page, where they lie. */
 typedef struct {
@@ -504,11 +617,11 @@ POHELDU_NODISCARD static inline poheldu_view poheldu_look(const poheldu_heap *h,
 /*
  * Copies len bytes. from may be null where len is 0. Overlap: safe.
  *
- *     if (poheldu_memcpy(h, p, data, len).value < len)
+ *     if (poheldu_copy_bytes(h, p, data, len).value < len)
  *         fprintf(stderr, "cut short\n");
  */
-static inline poheldu_answer poheldu_memcpy(const poheldu_heap *h, void *to, const void *from,
-                                            size_t len);
+static inline poheldu_answer poheldu_copy_bytes(const poheldu_heap *h, void *to, const void *from,
+                                                size_t len);
 
 /*
  * Copies a string with its closing zero. One that does not fit is clipped and still ends: the
@@ -516,21 +629,21 @@ static inline poheldu_answer poheldu_memcpy(const poheldu_heap *h, void *to, con
  * from no byte is read after its first zero, nor after POHELDU_LARGEST_OBJECT + 1 bytes, nor past
  * the end of the heap if it lies in it. Overlap: safe.
  *
- *     if (poheldu_strcpy(h, p, text).value <= strlen(text))
+ *     if (poheldu_copy_string(h, p, text).value <= strlen(text))
  *         fprintf(stderr, "cut short\n");
  */
-static inline poheldu_answer poheldu_strcpy(const poheldu_heap *h, void *to, const char *from);
+static inline poheldu_answer poheldu_copy_string(const poheldu_heap *h, void *to, const char *from);
 
 /*
  * Copies a string into a field of count bytes: from before its first zero, at most count bytes of
  * it, then zeros to the field's end. As with strncpy, a string of count bytes or more gets no
  * closing zero, and of from no byte is read after its first zero nor after count bytes. The other
- * bounds of poheldu_strcpy hold too. from may be null where count is 0. Overlap: safe.
+ * bounds of poheldu_copy_string hold too. from may be null where count is 0. Overlap: safe.
  *
- *     poheldu_strncpy(h, p, text, 16);
+ *     poheldu_copy_padded(h, p, text, 16);
  */
-static inline poheldu_answer poheldu_strncpy(const poheldu_heap *h, void *to, const char *from,
-                                             size_t count);
+static inline poheldu_answer poheldu_copy_padded(const poheldu_heap *h, void *to, const char *from,
+                                                 size_t count);
 
 /* ---- Objects, by offset
  *
@@ -611,14 +724,16 @@ static inline poheldu_answer poheldu_request(const poheldu_heap *h, uint32_t ope
 }
 
 /*
- * Takes a slot for size bytes, 0 among them. The value is its offset. Refuses UNSUPPORTED_SIZE,
- * CLASS_TOO_SMALL, CLASS_AT_CAPACITY, CORRUPT_METADATA.
+ * Takes a slot for size bytes, 0 among them. The value is its offset: where that is, the draws say,
+ * and not the caller. Refuses UNSUPPORTED_SIZE, CLASS_TOO_SMALL, CLASS_AT_CAPACITY,
+ * CORRUPT_METADATA.
  *
- *     poheldu_answer a = poheldu_allocate(h, 100);
+ *     poheldu_answer a = poheldu_allocate_at(h, 100);
  *     if (a.number == POHELDU_CLASS_AT_CAPACITY)
  *         fprintf(stderr, "no room for 100 bytes\n");
  */
-POHELDU_NODISCARD static inline poheldu_answer poheldu_allocate(const poheldu_heap *h, size_t size)
+POHELDU_NODISCARD static inline poheldu_answer poheldu_allocate_at(const poheldu_heap *h,
+                                                                   size_t size)
 {
     return poheldu_request(h, POHELDU_ALLOCATE, poheldu_word_(size), 0, NULL, 0);
 }
@@ -627,9 +742,9 @@ POHELDU_NODISCARD static inline poheldu_answer poheldu_allocate(const poheldu_he
  * Frees the object that starts at an offset, and fills its slot with the pattern. The value is its
  * slot's size. Refuses OUT_OF_RANGE, NOT_A_SLOT_START, NOT_ALLOCATED, CORRUPT_METADATA.
  *
- *     poheldu_free(h, offset);
+ *     poheldu_free_at(h, offset);
  */
-static inline poheldu_answer poheldu_free(const poheldu_heap *h, size_t offset)
+static inline poheldu_answer poheldu_free_at(const poheldu_heap *h, size_t offset)
 {
     return poheldu_request(h, POHELDU_FREE, poheldu_word_(offset), 0, NULL, 0);
 }
@@ -638,10 +753,10 @@ static inline poheldu_answer poheldu_free(const poheldu_heap *h, size_t offset)
  * The value is the number of bytes from an offset to the end of the live object that it lies in; 0
  * where it lies in none. Refuses OUT_OF_RANGE.
  *
- *     poheldu_answer a = poheldu_remaining(h, offset);
+ *     poheldu_answer a = poheldu_remaining_at(h, offset);
  */
-POHELDU_NODISCARD static inline poheldu_answer poheldu_remaining(const poheldu_heap *h,
-                                                                 size_t offset)
+POHELDU_NODISCARD static inline poheldu_answer poheldu_remaining_at(const poheldu_heap *h,
+                                                                    size_t offset)
 {
     return poheldu_request(h, POHELDU_REMAINING, poheldu_word_(offset), 0, NULL, 0);
 }
@@ -706,10 +821,10 @@ static inline poheldu_answer poheldu_copy_(const poheldu_heap *h, uint32_t opera
  * Copies len bytes to an offset, and no further than the object's end. The value is how many bytes
  * were written; 0 where the offset lies in no live object. Refuses OUT_OF_RANGE. Overlap: safe.
  *
- *     poheldu_copy_bytes(h, offset, data, len);
+ *     poheldu_copy_bytes_at(h, offset, data, len);
  */
-static inline poheldu_answer poheldu_copy_bytes(const poheldu_heap *h, size_t offset,
-                                                const void *source, size_t len)
+static inline poheldu_answer poheldu_copy_bytes_at(const poheldu_heap *h, size_t offset,
+                                                   const void *source, size_t len)
 {
     return poheldu_copy_(h, POHELDU_COPY_BYTES, offset, 0, source, len);
 }
@@ -719,10 +834,10 @@ static inline poheldu_answer poheldu_copy_bytes(const poheldu_heap *h, size_t of
  * is longer than what is left of the object, it is clipped and closed: the object's last byte
  * becomes zero. A string that just fits without a zero gets none. Overlap: safe.
  *
- *     poheldu_copy_string(h, offset, data, len);
+ *     poheldu_copy_string_at(h, offset, data, len);
  */
-static inline poheldu_answer poheldu_copy_string(const poheldu_heap *h, size_t offset,
-                                                 const void *source, size_t len)
+static inline poheldu_answer poheldu_copy_string_at(const poheldu_heap *h, size_t offset,
+                                                    const void *source, size_t len)
 {
     return poheldu_copy_(h, POHELDU_COPY_STRING, offset, 0, source, len);
 }
@@ -731,10 +846,10 @@ static inline poheldu_answer poheldu_copy_string(const poheldu_heap *h, size_t o
  * The same of count bytes: the source before its first zero byte or end, and then zeros. Overlap:
  * safe.
  *
- *     poheldu_copy_padded(h, offset, data, len, 16);
+ *     poheldu_copy_padded_at(h, offset, data, len, 16);
  */
-static inline poheldu_answer poheldu_copy_padded(const poheldu_heap *h, size_t offset,
-                                                 const void *source, size_t len, size_t count)
+static inline poheldu_answer poheldu_copy_padded_at(const poheldu_heap *h, size_t offset,
+                                                    const void *source, size_t len, size_t count)
 {
     return poheldu_copy_(h, POHELDU_COPY_PADDED, offset, count, source, len);
 }
@@ -747,54 +862,27 @@ static inline poheldu_answer poheldu_copy_padded(const poheldu_heap *h, size_t o
  */
 
 /*
- * How many slots a heap has in all classes: a list of so many numbers is never too short. 0 where
- * no heap has this length. Where the length is a constant, POHELDU_ALL_SLOTS is the same.
+ * How many slots a heap has in all classes: a list of so many numbers is never too short. 0 where a
+ * length is refused. Where the length is a constant, POHELDU_ALL_SLOTS is the same.
  *
  *     uint32_t *found = (uint32_t *)malloc(poheldu_slot_count(h) * sizeof *found);
  */
 POHELDU_NODISCARD static inline size_t poheldu_slot_count(const poheldu_heap *h)
 {
-    const size_t region = h->heap_len / POHELDU_CLASSES;
-    return h->heap_len % POHELDU_CLASSES == 0 ? POHELDU_ALL_SLOTS(region) : 0;
+    return poheldu_count_slots(h->heap_len, h->metadata, h->metadata_len);
 }
-
-/*
- * Inspects a heap, as poheldu_inspect does.
- *
- *     poheldu_answer a = poheldu_check(h, list, list_len);
- *     if (a.number == POHELDU_SERVED && a.value > 0)
- *         fprintf(stderr, "%u slots were written to\n", a.value);
- */
-POHELDU_NODISCARD static inline poheldu_answer poheldu_check(const poheldu_heap *h, uint32_t *list,
-                                                             size_t list_len)
-{
-    return poheldu_inspect(h->heap, h->heap_len, h->metadata, h->metadata_len, list, list_len);
-}
-
-/* A slot, live or clear: its class and its number there, both from 0, and where its bytes lie. */
-typedef struct {
-    uint32_t size_class, number, start, len;
-} poheldu_slot;
 
 /*
  * The slot of a class with a number. Its len is 0, and all else too, where the heap has none such.
  *
  *     for (uint32_t i = 0; poheldu_slot_of(h, 3, i).len > 0; i++)
- *         putchar(poheldu_remaining(h, poheldu_slot_of(h, 3, i).start).value > 0 ? '#' : '.');
+ *         putchar(poheldu_remaining_at(h, poheldu_slot_of(h, 3, i).start).value > 0 ? '#' : '.');
  */
 POHELDU_NODISCARD static inline poheldu_slot poheldu_slot_of(const poheldu_heap *h,
                                                              size_t size_class, size_t number)
 {
-    const size_t region = h->heap_len / POHELDU_CLASSES;
-    poheldu_slot slot = {0, 0, 0, 0};
-    if (poheldu_slot_count(h) == 0 || size_class >= POHELDU_CLASSES ||
-        number >= POHELDU_SLOTS(region, size_class))
-        return slot;
-    slot.size_class = (uint32_t)size_class;
-    slot.number = (uint32_t)number;
-    slot.start = (uint32_t)(size_class * region + number * POHELDU_SLOT_BYTES(size_class));
-    slot.len = (uint32_t)POHELDU_SLOT_BYTES(size_class);
-    return slot;
+    return poheldu_nth_slot(h->heap_len, h->metadata, h->metadata_len, poheldu_word_(size_class),
+                            poheldu_word_(number));
 }
 
 /*
@@ -806,26 +894,17 @@ POHELDU_NODISCARD static inline poheldu_slot poheldu_slot_of(const poheldu_heap 
  */
 POHELDU_NODISCARD static inline poheldu_slot poheldu_slot_at(const poheldu_heap *h, size_t offset)
 {
-    const size_t region = h->heap_len / POHELDU_CLASSES;
-    const size_t size_class = region > 0 ? offset / region : POHELDU_CLASSES;
-    if (size_class >= POHELDU_CLASSES)
-        return poheldu_slot_of(h, POHELDU_CLASSES, 0);
-    return poheldu_slot_of(h, size_class, offset % region / POHELDU_SLOT_BYTES(size_class));
+    return poheldu_find_slot(h->heap_len, h->metadata, h->metadata_len, poheldu_word_(offset));
 }
 
 /*
- * The pattern that the metadata have, as poheldu_open was given it; 0 where they are too short to
- * have one.
+ * The pattern that the metadata have, as the heap was opened with it; 0 where a length is refused.
  *
- *     poheldu_answer a = poheldu_open(h->heap, h->heap_len, h->metadata, h->metadata_len, z, w,
- *                                     poheldu_pattern(h));
+ *     poheldu_answer a = poheldu_open_heap(h, poheldu_random_seeds(), poheldu_pattern(h));
  */
 POHELDU_NODISCARD static inline uint32_t poheldu_pattern(const poheldu_heap *h)
 {
-    if (h->metadata_len < POHELDU_FIELD_BYTES)
-        return 0;
-    const uint8_t *const p = h->metadata + POHELDU_PATTERN_AT;
-    return (uint32_t)p[0] | (uint32_t)p[1] << 8 | (uint32_t)p[2] << 16 | (uint32_t)p[3] << 24;
+    return poheldu_stored_pattern(h->heap_len, h->metadata, h->metadata_len);
 }
 
 /*
@@ -853,21 +932,21 @@ POHELDU_NODISCARD static inline poheldu_view poheldu_stray_bytes(const poheldu_h
 
 /* ---- What the functions by pointer do */
 
-static inline void *poheldu_new(const poheldu_heap *h, size_t size)
+static inline void *poheldu_allocate(const poheldu_heap *h, size_t size)
 {
-    const poheldu_answer a = poheldu_allocate(h, size);
+    const poheldu_answer a = poheldu_allocate_at(h, size);
     return a.number == POHELDU_SERVED ? poheldu_at(h, a.value) : NULL;
 }
 
-static inline poheldu_answer poheldu_delete(const poheldu_heap *h, const void *p)
+static inline poheldu_answer poheldu_free(const poheldu_heap *h, const void *p)
 {
     const poheldu_answer nothing = {POHELDU_SERVED, 0};
-    return p == NULL ? nothing : poheldu_free(h, poheldu_offset(h, p));
+    return p == NULL ? nothing : poheldu_free_at(h, poheldu_offset(h, p));
 }
 
-static inline size_t poheldu_usable_size(const poheldu_heap *h, const void *p)
+static inline size_t poheldu_remaining(const poheldu_heap *h, const void *p)
 {
-    return poheldu_remaining(h, poheldu_offset(h, p)).value;
+    return poheldu_remaining_at(h, poheldu_offset(h, p)).value;
 }
 
 static inline poheldu_view poheldu_look(const poheldu_heap *h, const void *p, size_t count,
@@ -876,42 +955,42 @@ static inline poheldu_view poheldu_look(const poheldu_heap *h, const void *p, si
     return poheldu_look_at(h, poheldu_offset(h, p), count, page, page_len);
 }
 
-static inline poheldu_answer poheldu_memcpy(const poheldu_heap *h, void *to, const void *from,
-                                            size_t len)
+static inline poheldu_answer poheldu_copy_bytes(const poheldu_heap *h, void *to, const void *from,
+                                                size_t len)
 {
-    return poheldu_copy_bytes(h, poheldu_offset(h, to), from, len);
+    return poheldu_copy_bytes_at(h, poheldu_offset(h, to), from, len);
 }
 
 /*
  * How many bytes of a text a copy is lent: through its first zero, at most so many, and not past
- * the heap that it lies in.
+ * the heap that it lies in. memchr reads one byte after another and none after that zero (C11,
+ * 7.24.5.1), so that the text may be shorter than most.
  */
 static inline size_t poheldu_text_(const poheldu_heap *h, const char *text, size_t most)
 {
     const size_t offset = poheldu_offset(h, text);
     if (offset < h->heap_len && most > h->heap_len - offset)
         most = h->heap_len - offset;
-    size_t len = 0;
-    while (len < most && text[len] != '\0')
-        len++;
-    return len < most ? len + 1 : most;
+    const char *const zero = most > 0 ? (const char *)memchr(text, '\0', most) : NULL;
+    return zero != NULL ? (size_t)(zero - text) + 1 : most;
 }
 
 /*
  * No copy writes more than the longest object. Whether a string of that length is clipped, the byte
  * after it says; no more are read.
  */
-static inline poheldu_answer poheldu_strcpy(const poheldu_heap *h, void *to, const char *from)
+static inline poheldu_answer poheldu_copy_string(const poheldu_heap *h, void *to, const char *from)
 {
-    return poheldu_copy_string(h, poheldu_offset(h, to), from,
-                               poheldu_text_(h, from, POHELDU_LARGEST_OBJECT + 1));
+    return poheldu_copy_string_at(h, poheldu_offset(h, to), from,
+                                  poheldu_text_(h, from, POHELDU_LARGEST_OBJECT + 1));
 }
 
-static inline poheldu_answer poheldu_strncpy(const poheldu_heap *h, void *to, const char *from,
-                                             size_t count)
+static inline poheldu_answer poheldu_copy_padded(const poheldu_heap *h, void *to, const char *from,
+                                                 size_t count)
 {
     const size_t most = count < POHELDU_LARGEST_OBJECT ? count : POHELDU_LARGEST_OBJECT;
-    return poheldu_copy_padded(h, poheldu_offset(h, to), from, poheldu_text_(h, from, most), count);
+    return poheldu_copy_padded_at(h, poheldu_offset(h, to), from, poheldu_text_(h, from, most),
+                                  count);
 }
 
 #ifdef __cplusplus

@@ -93,11 +93,12 @@ static void fill(uint8_t *bytes, size_t len)
 
 static poheldu_heap opened(size_t region)
 {
+    const poheldu_seeds seeds = {7, 11};
     poheldu_heap h = {NULL, POHELDU_HEAP_BYTES(region), NULL, POHELDU_METADATA_BYTES(region)};
     h.heap = (uint8_t *)allocated(h.heap_len);
     h.metadata = (uint8_t *)allocated(h.metadata_len);
     fill(h.heap, h.heap_len);
-    EXPECT(is(poheldu_open(h.heap, h.heap_len, h.metadata, h.metadata_len, 7, 11, PATTERN), POHELDU_SERVED, 0));
+    EXPECT(is(poheldu_open_heap(&h, seeds, PATTERN), POHELDU_SERVED, 0));
     return h;
 }
 
@@ -150,11 +151,11 @@ static poheldu_answer copied(poheldu_heap h, poheldu_operation operation, size_t
                              size_t len, uint32_t count)
 {
     if (operation == POHELDU_COPY_BYTES)
-        return random_below(2) ? poheldu_copy_bytes(&h, offset, source, len)
-                               : poheldu_memcpy(&h, poheldu_at(&h, offset), source, len);
+        return random_below(2) ? poheldu_copy_bytes_at(&h, offset, source, len)
+                               : poheldu_copy_bytes(&h, poheldu_at(&h, offset), source, len);
     if (operation == POHELDU_COPY_STRING)
-        return poheldu_copy_string(&h, offset, source, len);
-    return poheldu_copy_padded(&h, offset, source, len, count);
+        return poheldu_copy_string_at(&h, offset, source, len);
+    return poheldu_copy_padded_at(&h, offset, source, len, count);
 }
 
 /* The helper's answer and bytes are those of a copy from an equal source elsewhere. */
@@ -178,7 +179,7 @@ static void try_text(poheldu_heap h, size_t offset, const char *text, size_t bou
     void *const to = poheldu_at(&h, offset);
     const poheldu_answer want = padded ? served_apart(twin, POHELDU_COPY_PADDED, offset, source, bound, count)
                                        : served_apart(twin, POHELDU_COPY_STRING, offset, source, bound, 0);
-    const poheldu_answer got = padded ? poheldu_strncpy(&h, to, text, count) : poheldu_strcpy(&h, to, text);
+    const poheldu_answer got = padded ? poheldu_copy_padded(&h, to, text, count) : poheldu_copy_string(&h, to, text);
     EXPECT(is(got, want.number, want.value));
     EXPECT(same(h, twin));
     closed(twin);
@@ -198,7 +199,7 @@ static void random_copies(void)
         if (round % 16 == 0)
             fill(arena, arena_len);
         if (round % 4 == 0)
-            EXPECT(poheldu_allocate(&h, 1 + random_below(512)).number <= POHELDU_CLASS_AT_CAPACITY);
+            EXPECT(poheldu_allocate_at(&h, 1 + random_below(512)).number <= POHELDU_CLASS_AT_CAPACITY);
         /* near each other as often as not, and often at the ends */
         const size_t offset = random_below((uint32_t)h.heap_len);
         const size_t near = BESIDE + offset + random_below(2 * BESIDE) - BESIDE;
@@ -221,27 +222,27 @@ static void random_copies(void)
 static void copies_within_an_object(void)
 {
     const poheldu_heap h = opened(4096);
-    char *const p = (char *)poheldu_new(&h, 16);
+    char *const p = (char *)poheldu_allocate(&h, 16);
     EXPECT(p != NULL);
     memcpy(p, "abcdefghijklmnop", 16);
-    EXPECT(is(poheldu_memcpy(&h, p + 2, p, 16), POHELDU_SERVED, 14));
+    EXPECT(is(poheldu_copy_bytes(&h, p + 2, p, 16), POHELDU_SERVED, 14));
     EXPECT(memcmp(p, "ababcdefghijklmn", 16) == 0);
-    EXPECT(is(poheldu_memcpy(&h, p, p + 2, 10), POHELDU_SERVED, 10));
+    EXPECT(is(poheldu_copy_bytes(&h, p, p + 2, 10), POHELDU_SERVED, 10));
     EXPECT(memcmp(p, "abcdefghijijklmn", 16) == 0);
     memcpy(p, "abcdefg\0ijklmnop", 16);
-    EXPECT(is(poheldu_strcpy(&h, p + 3, p), POHELDU_SERVED, 8));
+    EXPECT(is(poheldu_copy_string(&h, p + 3, p), POHELDU_SERVED, 8));
     EXPECT(memcmp(p, "abcabcdefg\0lmnop", 16) == 0);
-    EXPECT(is(poheldu_strcpy(&h, p, p + 3), POHELDU_SERVED, 8));
+    EXPECT(is(poheldu_copy_string(&h, p, p + 3), POHELDU_SERVED, 8));
     EXPECT(memcmp(p, "abcdefg\0fg\0lmnop", 16) == 0);
-    EXPECT(is(poheldu_strncpy(&h, p + 2, p, 12), POHELDU_SERVED, 12));
+    EXPECT(is(poheldu_copy_padded(&h, p + 2, p, 12), POHELDU_SERVED, 12));
     EXPECT(memcmp(p, "ababcdefg\0\0\0\0\0op", 16) == 0);
     memcpy(p, "abcdefghijklmno\0", 16);
-    EXPECT(is(poheldu_strcpy(&h, p + 3, p), POHELDU_SERVED, 13));
+    EXPECT(is(poheldu_copy_string(&h, p + 3, p), POHELDU_SERVED, 13));
     EXPECT(memcmp(p, "abcabcdefghijkl\0", 16) == 0);
     memcpy(p, "ababcdefg\0\0\0\0\0op", 16);
-    EXPECT(is(poheldu_strncpy(&h, p, p + 2, 4), POHELDU_SERVED, 4));
+    EXPECT(is(poheldu_copy_padded(&h, p, p + 2, 4), POHELDU_SERVED, 4));
     EXPECT(memcmp(p, "abcdcdefg\0\0\0\0\0op", 16) == 0);
-    EXPECT(is(poheldu_memcpy(&h, p, p, 16), POHELDU_SERVED, 16));
+    EXPECT(is(poheldu_copy_bytes(&h, p, p, 16), POHELDU_SERVED, 16));
     EXPECT(memcmp(p, "abcdcdefg\0\0\0\0\0op", 16) == 0);
     closed(h);
 }
@@ -251,7 +252,7 @@ static void long_sources(void)
 {
     const poheldu_heap h = opened(65536);
     const size_t len = POHELDU_LARGEST_OBJECT + 4000, source = 16;
-    uint8_t *const to = (uint8_t *)poheldu_new(&h, POHELDU_LARGEST_OBJECT), *const from = h.heap + source;
+    uint8_t *const to = (uint8_t *)poheldu_allocate(&h, POHELDU_LARGEST_OBJECT), *const from = h.heap + source;
     EXPECT(to != NULL && to > from + len);
     const size_t offset = (size_t)(to - h.heap);
     for (size_t zero = POHELDU_LARGEST_OBJECT - 2; zero < POHELDU_LARGEST_OBJECT + 3; zero++)
@@ -271,15 +272,15 @@ static void sources_elsewhere(void)
 {
     const poheldu_heap h = opened(1024);
     const size_t len = POHELDU_LARGEST_OBJECT + 1;
-    uint8_t *const from = (uint8_t *)allocated(len), *const to = (uint8_t *)poheldu_new(&h, 512);
+    uint8_t *const from = (uint8_t *)allocated(len), *const to = (uint8_t *)poheldu_allocate(&h, 512);
     memset(from, 'x', len);
-    EXPECT(is(poheldu_memcpy(&h, to, from, len), POHELDU_SERVED, 512) && lent == from && lent_len == len);
-    EXPECT(is(poheldu_memcpy(&h, to, NULL, 0), POHELDU_SERVED, 0) && lent == NULL && lent_len == 0);
-    EXPECT(is(poheldu_copy_string(&h, poheldu_offset(&h, to), from, len), POHELDU_SERVED, 512) && lent == from &&
+    EXPECT(is(poheldu_copy_bytes(&h, to, from, len), POHELDU_SERVED, 512) && lent == from && lent_len == len);
+    EXPECT(is(poheldu_copy_bytes(&h, to, NULL, 0), POHELDU_SERVED, 0) && lent == NULL && lent_len == 0);
+    EXPECT(is(poheldu_copy_string_at(&h, poheldu_offset(&h, to), from, len), POHELDU_SERVED, 512) && lent == from &&
            lent_len == len && to[510] == 'x' && to[511] == 0);
-    EXPECT(is(poheldu_copy_padded(&h, poheldu_offset(&h, to), from, len, 9), POHELDU_SERVED, 9) && lent == from &&
+    EXPECT(is(poheldu_copy_padded_at(&h, poheldu_offset(&h, to), from, len, 9), POHELDU_SERVED, 9) && lent == from &&
            lent_len == len);
-    EXPECT(is(poheldu_copy_padded(&h, poheldu_offset(&h, to), NULL, 0, 9), POHELDU_SERVED, 9) && to[0] == 0 &&
+    EXPECT(is(poheldu_copy_padded_at(&h, poheldu_offset(&h, to), NULL, 0, 9), POHELDU_SERVED, 9) && to[0] == 0 &&
            to[9] == 'x');
     /* up to the first byte of the heap, and from behind its last */
     EXPECT(!poheldu_overlap_(before_start(h), 1, h.heap, h.heap_len));
@@ -297,24 +298,24 @@ static void sources_elsewhere(void)
 static void ends_of_texts(void)
 {
     const poheldu_heap h = opened(1024);
-    char *const p = (char *)poheldu_new(&h, 8), *const text = (char *)allocated(5),
+    char *const p = (char *)poheldu_allocate(&h, 8), *const text = (char *)allocated(5),
                 *const end = (char *)h.heap + h.heap_len;
     memcpy(text, "Anna", 5);
-    EXPECT(is(poheldu_strcpy(&h, p, text), POHELDU_SERVED, 5) && memcmp(p, "Anna", 5) == 0 && lent_len == 5);
-    EXPECT(is(poheldu_strncpy(&h, p, text, 8), POHELDU_SERVED, 8) && memcmp(p, "Anna\0\0\0\0", 8) == 0);
+    EXPECT(is(poheldu_copy_string(&h, p, text), POHELDU_SERVED, 5) && memcmp(p, "Anna", 5) == 0 && lent_len == 5);
+    EXPECT(is(poheldu_copy_padded(&h, p, text, 8), POHELDU_SERVED, 8) && memcmp(p, "Anna\0\0\0\0", 8) == 0);
     memcpy(text, "Cleos", 5);
-    EXPECT(is(poheldu_strncpy(&h, p, text, 5), POHELDU_SERVED, 5) && memcmp(p, "Cleos\0\0\0", 8) == 0);
-    EXPECT(is(poheldu_strncpy(&h, p, NULL, 0), POHELDU_SERVED, 0) && memcmp(p, "Cleos\0\0\0", 8) == 0);
-    EXPECT(is(poheldu_strcpy(&h, p, "Bertrand"), POHELDU_SERVED, 8) && memcmp(p, "Bertran", 8) == 0);
-    EXPECT(is(poheldu_strcpy(&h, p + 4, "Ann"), POHELDU_SERVED, 4) && memcmp(p, "BertAnn", 8) == 0);
+    EXPECT(is(poheldu_copy_padded(&h, p, text, 5), POHELDU_SERVED, 5) && memcmp(p, "Cleos\0\0\0", 8) == 0);
+    EXPECT(is(poheldu_copy_padded(&h, p, NULL, 0), POHELDU_SERVED, 0) && memcmp(p, "Cleos\0\0\0", 8) == 0);
+    EXPECT(is(poheldu_copy_string(&h, p, "Bertrand"), POHELDU_SERVED, 8) && memcmp(p, "Bertran", 8) == 0);
+    EXPECT(is(poheldu_copy_string(&h, p + 4, "Ann"), POHELDU_SERVED, 4) && memcmp(p, "BertAnn", 8) == 0);
     memcpy(end - 3, "end", 3);
-    EXPECT(is(poheldu_strcpy(&h, p, end - 3), POHELDU_SERVED, 3) && memcmp(p, "endtAnn", 8) == 0);
-    EXPECT(is(poheldu_strncpy(&h, p, end - 3, 6), POHELDU_SERVED, 6) && memcmp(p, "end\0\0\0n", 8) == 0);
+    EXPECT(is(poheldu_copy_string(&h, p, end - 3), POHELDU_SERVED, 3) && memcmp(p, "endtAnn", 8) == 0);
+    EXPECT(is(poheldu_copy_padded(&h, p, end - 3, 6), POHELDU_SERVED, 6) && memcmp(p, "end\0\0\0n", 8) == 0);
     char *const longest = (char *)allocated(POHELDU_LARGEST_OBJECT + 1);
     memset(longest, 'x', POHELDU_LARGEST_OBJECT + 1);
-    EXPECT(is(poheldu_strcpy(&h, p, longest), POHELDU_SERVED, 8) && memcmp(p, "xxxxxxx", 8) == 0);
+    EXPECT(is(poheldu_copy_string(&h, p, longest), POHELDU_SERVED, 8) && memcmp(p, "xxxxxxx", 8) == 0);
     EXPECT(lent_len == POHELDU_LARGEST_OBJECT + 1);
-    EXPECT(is(poheldu_strncpy(&h, p, longest, SIZE_MAX), POHELDU_SERVED, 8));
+    EXPECT(is(poheldu_copy_padded(&h, p, longest, SIZE_MAX), POHELDU_SERVED, 8));
     free(longest);
     free(text);
     closed(h);
@@ -326,7 +327,7 @@ static void clipped_names(void)
     const poheldu_heap h = opened(1024);
     const char letters[] = "ABCDEFGHIJKLMNOPQRST";
     const size_t room = 8;
-    char *const p = (char *)poheldu_new(&h, room), name[sizeof letters], want[8];
+    char *const p = (char *)poheldu_allocate(&h, room), name[sizeof letters], want[8];
     const char after = p[room];
     for (size_t len = 0; len < sizeof letters; len++)
         for (size_t zero = 0; zero < 2; zero++) {
@@ -338,7 +339,8 @@ static void clipped_names(void)
             memcpy(want, name, written);
             if (whole > room)
                 want[room - 1] = '\0';
-            EXPECT(is(zero ? poheldu_strcpy(&h, p, name) : poheldu_copy_string(&h, poheldu_offset(&h, p), name, len),
+            EXPECT(is(zero ? poheldu_copy_string(&h, p, name)
+                           : poheldu_copy_string_at(&h, poheldu_offset(&h, p), name, len),
                       POHELDU_SERVED, (uint32_t)written));
             EXPECT(memcmp(p, want, room) == 0 && p[room] == after);
             EXPECT(!zero || strlen(p) == (len < room ? len : room - 1));
@@ -353,32 +355,33 @@ static void wide_numbers(void)
     const size_t wide = (size_t)UINT32_MAX + 1;
     const size_t sizes[] = {POHELDU_LARGEST_OBJECT + 1, UINT32_MAX, wide, wide + 8, SIZE_MAX};
     for (size_t i = 0; i < sizeof sizes / sizeof *sizes; i++) {
-        EXPECT(is(poheldu_allocate(&h, sizes[i]), POHELDU_UNSUPPORTED_SIZE, 0));
-        EXPECT(poheldu_new(&h, sizes[i]) == NULL);
+        EXPECT(is(poheldu_allocate_at(&h, sizes[i]), POHELDU_UNSUPPORTED_SIZE, 0));
+        EXPECT(poheldu_allocate(&h, sizes[i]) == NULL);
     }
     EXPECT(same(h, before));
     closed(before);
 
-    char *const p = (char *)poheldu_new(&h, 8);
+    char *const p = (char *)poheldu_allocate(&h, 8);
     const size_t offset = poheldu_offset(&h, p), counts[] = {UINT32_MAX, wide, wide + 2, SIZE_MAX};
     for (size_t i = 0; i < sizeof counts / sizeof *counts; i++) {
-        EXPECT(is(poheldu_copy_padded(&h, offset, "ab", 2, counts[i]), POHELDU_SERVED, 8));
+        EXPECT(is(poheldu_copy_padded_at(&h, offset, "ab", 2, counts[i]), POHELDU_SERVED, 8));
         memset(p, 'x', 8);
-        EXPECT(is(poheldu_strncpy(&h, p, "ab", counts[i]), POHELDU_SERVED, 8) && memcmp(p, "ab\0\0\0\0\0\0", 8) == 0);
-        EXPECT(is(poheldu_free(&h, counts[i]), POHELDU_OUT_OF_RANGE, 0));
-        EXPECT(is(poheldu_remaining(&h, counts[i]), POHELDU_OUT_OF_RANGE, 0));
-        EXPECT(is(poheldu_copy_bytes(&h, counts[i], "ab", 2), POHELDU_OUT_OF_RANGE, 0));
-        EXPECT(is(poheldu_copy_string(&h, counts[i], "ab", 2), POHELDU_OUT_OF_RANGE, 0));
+        EXPECT(is(poheldu_copy_padded(&h, p, "ab", counts[i]), POHELDU_SERVED, 8));
+        EXPECT(memcmp(p, "ab\0\0\0\0\0\0", 8) == 0);
+        EXPECT(is(poheldu_free_at(&h, counts[i]), POHELDU_OUT_OF_RANGE, 0));
+        EXPECT(is(poheldu_remaining_at(&h, counts[i]), POHELDU_OUT_OF_RANGE, 0));
+        EXPECT(is(poheldu_copy_bytes_at(&h, counts[i], "ab", 2), POHELDU_OUT_OF_RANGE, 0));
+        EXPECT(is(poheldu_copy_string_at(&h, counts[i], "ab", 2), POHELDU_OUT_OF_RANGE, 0));
         EXPECT(poheldu_at(&h, counts[i]) == NULL);
     }
-    EXPECT(is(poheldu_free(&h, wide + offset), POHELDU_OUT_OF_RANGE, 0));
-    EXPECT(is(poheldu_free(&h, offset), POHELDU_SERVED, 8));
+    EXPECT(is(poheldu_free_at(&h, wide + offset), POHELDU_OUT_OF_RANGE, 0));
+    EXPECT(is(poheldu_free_at(&h, offset), POHELDU_SERVED, 8));
 
     const poheldu_heap bad_heap = {h.heap, h.heap_len - 1, h.metadata, h.metadata_len};
     const poheldu_heap bad_metadata = {h.heap, h.heap_len, h.metadata, h.metadata_len - 1};
-    EXPECT(is(poheldu_allocate(&bad_heap, wide), POHELDU_HEAP_LENGTH, 0));
-    EXPECT(is(poheldu_allocate(&bad_metadata, wide), POHELDU_METADATA_LENGTH, 0));
-    EXPECT(is(poheldu_free(&bad_metadata, wide), POHELDU_METADATA_LENGTH, 0));
+    EXPECT(is(poheldu_allocate_at(&bad_heap, wide), POHELDU_HEAP_LENGTH, 0));
+    EXPECT(is(poheldu_allocate_at(&bad_metadata, wide), POHELDU_METADATA_LENGTH, 0));
+    EXPECT(is(poheldu_free_at(&bad_metadata, wide), POHELDU_METADATA_LENGTH, 0));
     closed(h);
 }
 
@@ -389,47 +392,47 @@ static void objects_of_nothing(void)
 {
     const poheldu_heap h = opened(1024);
     for (size_t i = 0; i < POHELDU_CAPACITY(1024, 0); i++) {
-        char *const p = (char *)poheldu_new(&h, 0);
-        EXPECT(p != NULL && poheldu_usable_size(&h, p) == POHELDU_SLOT_BYTES(0));
-        EXPECT(is(poheldu_strcpy(&h, p, ""), POHELDU_SERVED, 1) && *p == '\0');
+        char *const p = (char *)poheldu_allocate(&h, 0);
+        EXPECT(p != NULL && poheldu_remaining(&h, p) == POHELDU_SLOT_BYTES(0));
+        EXPECT(is(poheldu_copy_string(&h, p, ""), POHELDU_SERVED, 1) && *p == '\0');
     }
-    EXPECT(is(poheldu_allocate(&h, 0), POHELDU_CLASS_AT_CAPACITY, 0) && poheldu_new(&h, 0) == NULL);
+    EXPECT(is(poheldu_allocate_at(&h, 0), POHELDU_CLASS_AT_CAPACITY, 0) && poheldu_allocate(&h, 0) == NULL);
     closed(h);
 }
 
-static void deletes(void)
+static void frees(void)
 {
     const poheldu_heap h = opened(1024), nowhere = {NULL, 0, NULL, 0};
-    char *const p = (char *)poheldu_new(&h, 100), *const one = (char *)poheldu_new(&h, 8);
+    char *const p = (char *)poheldu_allocate(&h, 100), *const one = (char *)poheldu_allocate(&h, 8);
     EXPECT(p != NULL && one != NULL && poheldu_at(&h, poheldu_offset(&h, p)) == p);
     const poheldu_heap before = twin_of(h);
-    EXPECT(is(poheldu_delete(&h, NULL), POHELDU_SERVED, 0));
-    EXPECT(is(poheldu_delete(&nowhere, NULL), POHELDU_SERVED, 0));
-    EXPECT(is(poheldu_delete(&h, p + 1), POHELDU_NOT_A_SLOT_START, 0));
-    EXPECT(is(poheldu_delete(&h, before_start(h)), POHELDU_OUT_OF_RANGE, 0));
-    EXPECT(is(poheldu_delete(&h, h.heap + h.heap_len), POHELDU_OUT_OF_RANGE, 0));
-    EXPECT(is(poheldu_delete(&h, h.metadata), POHELDU_OUT_OF_RANGE, 0));
-    EXPECT(is(poheldu_delete(&nowhere, p), POHELDU_HEAP_LENGTH, 0));
+    EXPECT(is(poheldu_free(&h, NULL), POHELDU_SERVED, 0));
+    EXPECT(is(poheldu_free(&nowhere, NULL), POHELDU_SERVED, 0));
+    EXPECT(is(poheldu_free(&h, p + 1), POHELDU_NOT_A_SLOT_START, 0));
+    EXPECT(is(poheldu_free(&h, before_start(h)), POHELDU_OUT_OF_RANGE, 0));
+    EXPECT(is(poheldu_free(&h, h.heap + h.heap_len), POHELDU_OUT_OF_RANGE, 0));
+    EXPECT(is(poheldu_free(&h, h.metadata), POHELDU_OUT_OF_RANGE, 0));
+    EXPECT(is(poheldu_free(&nowhere, p), POHELDU_HEAP_LENGTH, 0));
     EXPECT(same(h, before));
     closed(before);
-    EXPECT(is(poheldu_delete(&h, p), POHELDU_SERVED, 128));
-    EXPECT(is(poheldu_delete(&h, p), POHELDU_NOT_ALLOCATED, 0));
-    EXPECT(is(poheldu_delete(&h, one), POHELDU_SERVED, 8));
+    EXPECT(is(poheldu_free(&h, p), POHELDU_SERVED, 128));
+    EXPECT(is(poheldu_free(&h, p), POHELDU_NOT_ALLOCATED, 0));
+    EXPECT(is(poheldu_free(&h, one), POHELDU_SERVED, 8));
     closed(h);
 }
 
-static void usable_sizes(void)
+static void remaining_sizes(void)
 {
     const poheldu_heap h = opened(1024);
-    char *const p = (char *)poheldu_new(&h, 100);
-    EXPECT(poheldu_usable_size(&h, p) == 128 && poheldu_usable_size(&h, p + 100) == 28 &&
-           poheldu_usable_size(&h, p + 127) == 1);
-    EXPECT(poheldu_usable_size(&h, NULL) == 0 && poheldu_usable_size(&h, before_start(h)) == 0);
-    EXPECT(poheldu_usable_size(&h, h.heap + h.heap_len) == 0 && poheldu_usable_size(&h, h.heap + h.heap_len - 1) == 0);
-    EXPECT(is(poheldu_remaining(&h, poheldu_offset(&h, p)), POHELDU_SERVED, 128));
-    poheldu_delete(&h, p);
-    EXPECT(poheldu_usable_size(&h, p) == 0);
-    EXPECT(is(poheldu_memcpy(&h, p, "ab", 2), POHELDU_SERVED, 0));
+    char *const p = (char *)poheldu_allocate(&h, 100);
+    EXPECT(poheldu_remaining(&h, p) == 128 && poheldu_remaining(&h, p + 100) == 28 &&
+           poheldu_remaining(&h, p + 127) == 1);
+    EXPECT(poheldu_remaining(&h, NULL) == 0 && poheldu_remaining(&h, before_start(h)) == 0);
+    EXPECT(poheldu_remaining(&h, h.heap + h.heap_len) == 0 && poheldu_remaining(&h, h.heap + h.heap_len - 1) == 0);
+    EXPECT(is(poheldu_remaining_at(&h, poheldu_offset(&h, p)), POHELDU_SERVED, 128));
+    poheldu_free(&h, p);
+    EXPECT(poheldu_remaining(&h, p) == 0);
+    EXPECT(is(poheldu_copy_bytes(&h, p, "ab", 2), POHELDU_SERVED, 0));
     closed(h);
 }
 
@@ -441,10 +444,10 @@ static void destinations_outside(void)
     void *const outside[] = {NULL, elsewhere, before_start(h), h.heap + h.heap_len, h.metadata};
     for (size_t i = 0; i < sizeof outside / sizeof *outside; i++) {
         EXPECT(poheldu_offset(&h, outside[i]) == UINT32_MAX);
-        EXPECT(is(poheldu_memcpy(&h, outside[i], "ab", 2), POHELDU_OUT_OF_RANGE, 0));
-        EXPECT(is(poheldu_memcpy(&h, outside[i], h.heap, 9), POHELDU_OUT_OF_RANGE, 0));
-        EXPECT(is(poheldu_strcpy(&h, outside[i], "ab"), POHELDU_OUT_OF_RANGE, 0));
-        EXPECT(is(poheldu_strncpy(&h, outside[i], "ab", 4), POHELDU_OUT_OF_RANGE, 0));
+        EXPECT(is(poheldu_copy_bytes(&h, outside[i], "ab", 2), POHELDU_OUT_OF_RANGE, 0));
+        EXPECT(is(poheldu_copy_bytes(&h, outside[i], h.heap, 9), POHELDU_OUT_OF_RANGE, 0));
+        EXPECT(is(poheldu_copy_string(&h, outside[i], "ab"), POHELDU_OUT_OF_RANGE, 0));
+        EXPECT(is(poheldu_copy_padded(&h, outside[i], "ab", 4), POHELDU_OUT_OF_RANGE, 0));
     }
     EXPECT(poheldu_offset(&h, h.heap) == 0 && poheldu_offset(&h, h.heap + h.heap_len - 1) == h.heap_len - 1);
     EXPECT(poheldu_at(&h, 0) == h.heap && poheldu_at(&h, h.heap_len) == NULL);
@@ -465,7 +468,7 @@ static void try_look(poheldu_heap h, uint32_t offset, uint32_t count, const uint
 {
     const poheldu_part r =
         poheldu_read(h.heap, h.heap_len, h.metadata, h.metadata_len, offset, count, page, page_len);
-    const uint32_t space = poheldu_remaining(&h, offset).value;
+    const uint32_t space = poheldu_remaining_at(&h, offset).value;
     const size_t most = space > 0 ? space : page_len;
     EXPECT(r.number == POHELDU_SERVED && r.value == (count < most ? count : most));
     EXPECT(r.of_page == (space > 0 ? 0 : 1) && r.start == (space > 0 ? offset : 0));
@@ -481,14 +484,14 @@ static void looks_everywhere(void)
     const poheldu_heap h = opened(POHELDU_SMALLEST_REGION);
     uint8_t *const page = (uint8_t *)allocated(PAGE);
     for (uint32_t size = 1; size <= 512; size += 3) {
-        const poheldu_answer a = poheldu_allocate(&h, size);
+        const poheldu_answer a = poheldu_allocate_at(&h, size);
         if (a.number == POHELDU_SERVED && random_below(4) == 0)
-            poheldu_free(&h, a.value);
+            poheldu_free_at(&h, a.value);
     }
     const poheldu_heap before = twin_of(h);
     unsigned live = 0, others = 0;
     for (uint32_t offset = 0; offset < h.heap_len; offset += 1 + random_below(8)) {
-        const uint32_t space = poheldu_remaining(&h, offset).value;
+        const uint32_t space = poheldu_remaining_at(&h, offset).value;
         live += space > 0;
         others += space == 0;
         const uint32_t counts[] = {0, 1, PAGE - 1, PAGE, PAGE + 1, space - 1, space, space + 1, UINT32_MAX};
@@ -508,12 +511,12 @@ static void looks_everywhere(void)
 static void ends_of_views(void)
 {
     const poheldu_heap h = opened(1024);
-    const char *const p = (const char *)poheldu_new(&h, 5), page[] = "withdrawn";
+    const char *const p = (const char *)poheldu_allocate(&h, 5), page[] = "withdrawn";
     EXPECT(shows(poheldu_look(&h, p, 5, page, 9), p, 5));
     EXPECT(shows(poheldu_look(&h, p, 9, page, 9), p, 8) && shows(poheldu_look(&h, p + 3, 9, page, 9), p + 3, 5));
     EXPECT(shows(poheldu_look(&h, p, 0, page, 9), p, 0) && shows(poheldu_look(&h, p + 7, 0, NULL, 0), p + 7, 0));
     EXPECT(shows(poheldu_look(&h, p, 4, NULL, 0), p, 4));
-    poheldu_delete(&h, p);
+    poheldu_free(&h, p);
     EXPECT(shows(poheldu_look(&h, p, 4, page, 9), page, 4) && shows(poheldu_look(&h, p + 7, 4, page, 9), page, 4));
     EXPECT(shows(poheldu_look(&h, p, 20, page, 9), page, 9) && shows(poheldu_look(&h, p, 20, page, 2), page, 2));
     EXPECT(shows(poheldu_look(&h, p, 0, page, 9), page, 0) && shows(poheldu_look(&h, p, 4, page, 0), page, 0));
@@ -526,7 +529,7 @@ static void ends_of_views(void)
 static void views_refused(void)
 {
     const poheldu_heap h = opened(1024), nowhere = {NULL, 0, NULL, 0};
-    char *const p = (char *)poheldu_new(&h, 100);
+    char *const p = (char *)poheldu_allocate(&h, 100);
     const uint32_t offset = poheldu_offset(&h, p);
     const size_t wide = (size_t)UINT32_MAX + 1;
     const char page[] = "withdrawn";
@@ -575,12 +578,12 @@ static void counts_of_objects(void)
     void *objects[POHELDU_CAPACITY(4096, 0)];
     for (size_t i = 0; i < half; i++) {
         EXPECT(count_at(h, 0)[0] == (uint8_t)i && count_at(h, 0)[1] == i >> 8);
-        objects[i] = poheldu_new(&h, 8);
+        objects[i] = poheldu_allocate(&h, 8);
     }
-    EXPECT(count_at(h, 0)[0] == 0 && count_at(h, 0)[1] == 1 && poheldu_new(&h, 8) == NULL);
+    EXPECT(count_at(h, 0)[0] == 0 && count_at(h, 0)[1] == 1 && poheldu_allocate(&h, 8) == NULL);
     for (size_t i = half; i > 0; i--) {
-        EXPECT(is(poheldu_delete(&h, objects[i - 1]), POHELDU_SERVED, 8));
-        EXPECT(is(poheldu_delete(&h, objects[i - 1]), POHELDU_NOT_ALLOCATED, 0));
+        EXPECT(is(poheldu_free(&h, objects[i - 1]), POHELDU_SERVED, 8));
+        EXPECT(is(poheldu_free(&h, objects[i - 1]), POHELDU_NOT_ALLOCATED, 0));
         EXPECT(count_at(h, 0)[0] == (uint8_t)(i - 1) && count_at(h, 0)[1] == (i - 1) >> 8);
     }
     closed(h);
@@ -591,7 +594,7 @@ static void counts_above_half(void)
 {
     const poheldu_heap fresh = opened(1024);
     char page[] = "withdrawn";
-    const uint32_t offset = poheldu_allocate(&fresh, 100).value;
+    const uint32_t offset = poheldu_allocate_at(&fresh, 100).value;
     for (size_t c = 0; c < POHELDU_CLASSES; c++) {
         const uint32_t half = (uint32_t)POHELDU_CAPACITY(1024, c), counts[] = {half + 1, (1u << 31) + half, UINT32_MAX};
         for (size_t i = 0; i < sizeof counts / sizeof *counts; i++) {
@@ -599,17 +602,18 @@ static void counts_above_half(void)
             void *const p = poheldu_at(&h, offset);
             set_count(h, c, counts[i]);
             const poheldu_heap before = twin_of(h);
-            EXPECT(is(poheldu_allocate(&h, 8), POHELDU_CORRUPT_METADATA, 0) && poheldu_new(&h, SIZE_MAX) == NULL);
-            EXPECT(is(poheldu_delete(&h, p), POHELDU_CORRUPT_METADATA, 0));
-            EXPECT(is(poheldu_delete(&h, page), POHELDU_CORRUPT_METADATA, 0));
-            EXPECT(is(poheldu_delete(&h, NULL), POHELDU_SERVED, 0));
-            EXPECT(is(poheldu_strcpy(&h, p, "Anna"), POHELDU_CORRUPT_METADATA, 0));
+            EXPECT(is(poheldu_allocate_at(&h, 8), POHELDU_CORRUPT_METADATA, 0));
+            EXPECT(poheldu_allocate(&h, SIZE_MAX) == NULL);
+            EXPECT(is(poheldu_free(&h, p), POHELDU_CORRUPT_METADATA, 0));
+            EXPECT(is(poheldu_free(&h, page), POHELDU_CORRUPT_METADATA, 0));
+            EXPECT(is(poheldu_free(&h, NULL), POHELDU_SERVED, 0));
+            EXPECT(is(poheldu_copy_string(&h, p, "Anna"), POHELDU_CORRUPT_METADATA, 0));
             EXPECT(is(poheldu_request(&h, UINT8_MAX, 0, 0, NULL, 0), POHELDU_CORRUPT_METADATA, 0));
-            EXPECT(poheldu_usable_size(&h, p) == 0 && shows(poheldu_look(&h, p, 4, page, 9), page, 0));
-            EXPECT(is(poheldu_check(&h, NULL, 0), POHELDU_CORRUPT_METADATA, 0));
+            EXPECT(poheldu_remaining(&h, p) == 0 && shows(poheldu_look(&h, p, 4, page, 9), page, 0));
+            EXPECT(is(poheldu_inspect_heap(&h, NULL, 0), POHELDU_CORRUPT_METADATA, 0));
             EXPECT(same(h, before));
             EXPECT(is(poheldu_open(h.heap, h.heap_len, h.metadata, h.metadata_len, 7, 11, PATTERN), POHELDU_SERVED, 0));
-            EXPECT(is(poheldu_allocate(&h, 100), POHELDU_SERVED, offset));
+            EXPECT(is(poheldu_allocate_at(&h, 100), POHELDU_SERVED, offset));
             closed(before);
             closed(h);
         }
@@ -621,17 +625,17 @@ static void counts_above_half(void)
 static void counts_believed(void)
 {
     const poheldu_heap h = opened(1024);
-    void *const p = poheldu_new(&h, 8);
+    void *const p = poheldu_allocate(&h, 8);
     set_count(h, 0, (uint32_t)POHELDU_CAPACITY(1024, 0));
-    EXPECT(is(poheldu_allocate(&h, 8), POHELDU_CLASS_AT_CAPACITY, 0) && poheldu_usable_size(&h, p) == 8);
+    EXPECT(is(poheldu_allocate_at(&h, 8), POHELDU_CLASS_AT_CAPACITY, 0) && poheldu_remaining(&h, p) == 8);
     set_count(h, 0, 0);
-    EXPECT(is(poheldu_delete(&h, p), POHELDU_CORRUPT_METADATA, 0) && poheldu_usable_size(&h, p) == 8);
+    EXPECT(is(poheldu_free(&h, p), POHELDU_CORRUPT_METADATA, 0) && poheldu_remaining(&h, p) == 8);
     memset(h.metadata + POHELDU_FIELD_BYTES, 0xFF, POHELDU_BITMAP_BYTES(1024, 0));
     const poheldu_heap before = twin_of(h);
-    EXPECT(is(poheldu_allocate(&h, 8), POHELDU_CORRUPT_METADATA, 0) && poheldu_new(&h, 0) == NULL);
+    EXPECT(is(poheldu_allocate_at(&h, 8), POHELDU_CORRUPT_METADATA, 0) && poheldu_allocate(&h, 0) == NULL);
     EXPECT(same(h, before));
-    EXPECT(is(poheldu_allocate(&h, 16385), POHELDU_UNSUPPORTED_SIZE, 0));
-    EXPECT(poheldu_new(&h, 16) != NULL);
+    EXPECT(is(poheldu_allocate_at(&h, 16385), POHELDU_UNSUPPORTED_SIZE, 0));
+    EXPECT(poheldu_allocate(&h, 16) != NULL);
     closed(before);
     closed(h);
 }
@@ -668,29 +672,31 @@ static void slots_everywhere(void)
     closed(h);
 }
 
-/* What is no slot, and heaps that are none. */
+/* What is no slot; heaps and metadata of a length that is refused. */
 static void no_slots(void)
 {
     const poheldu_heap h = opened(1024), nowhere = {NULL, 0, NULL, 0},
                        cut = {h.heap, h.heap_len - 1, h.metadata, h.metadata_len},
-                       wrong = {h.heap, 12 * 1000, h.metadata, h.metadata_len};
+                       wrong = {h.heap, 12 * 1000, h.metadata, h.metadata_len},
+                       cut_metadata = {h.heap, h.heap_len, h.metadata, h.metadata_len - 1};
     EXPECT(is_no_slot(poheldu_slot_at(&h, h.heap_len)) && is_no_slot(poheldu_slot_at(&h, SIZE_MAX)));
+    EXPECT(is_no_slot(poheldu_slot_at(&h, (size_t)UINT32_MAX + 1)));
     EXPECT(is_no_slot(poheldu_slot_of(&h, 0, 128)) && is_no_slot(poheldu_slot_of(&h, 0, SIZE_MAX)));
     EXPECT(is_no_slot(poheldu_slot_of(&h, 8, 0)) && is_no_slot(poheldu_slot_of(&h, 12, 0)));
     EXPECT(is_no_slot(poheldu_slot_of(&h, SIZE_MAX, 0)) && is_slot(poheldu_slot_of(&h, 7, 0), 7, 0, 7 * 1024, 1024));
-    const poheldu_heap none[] = {nowhere, cut, wrong};
+    const poheldu_heap none[] = {nowhere, cut, wrong, cut_metadata};
     for (size_t i = 0; i < sizeof none / sizeof *none; i++) {
-        EXPECT(poheldu_slot_count(&none[i]) == 0);
+        EXPECT(poheldu_slot_count(&none[i]) == 0 && poheldu_pattern(&none[i]) == 0);
         EXPECT(is_no_slot(poheldu_slot_at(&none[i], 0)) && is_no_slot(poheldu_slot_of(&none[i], 0, 0)));
         EXPECT(shows(poheldu_stray_bytes(&none[i], poheldu_slot_at(&none[i], 0)), NULL, 0));
-        EXPECT(is(poheldu_check(&none[i], NULL, 0), POHELDU_HEAP_LENGTH, 0));
+        EXPECT(is(poheldu_inspect_heap(&none[i], NULL, 0), i < 3 ? POHELDU_HEAP_LENGTH : POHELDU_METADATA_LENGTH, 0));
     }
-    EXPECT(poheldu_pattern(&h) == PATTERN && poheldu_pattern(&cut) == PATTERN && poheldu_pattern(&nowhere) == 0);
+    EXPECT(poheldu_pattern(&h) == PATTERN);
     closed(h);
 }
 
-/* Opening paints every slot from its first byte on, and leaves what lies outside slots. */
-static void opening_paints(void)
+/* Opening fills every slot from its first byte on, and leaves what lies outside slots. */
+static void opening_fills(void)
 {
     poheldu_heap h = opened(1024), before;
     fill(h.heap, h.heap_len);
@@ -702,18 +708,36 @@ static void opening_paints(void)
         const poheldu_slot s = poheldu_slot_at(&h, at);
         EXPECT(h.heap[at] == (s.len > 0 ? (uint8_t)(PATTERN >> (at - s.start) % 4 * 8) : before.heap[at]));
     }
-    EXPECT(is(poheldu_check(&h, NULL, 0), POHELDU_SERVED, 0));
+    EXPECT(is(poheldu_inspect_heap(&h, NULL, 0), POHELDU_SERVED, 0));
     closed(before);
     closed(h);
+}
+
+/* Opening by the handle is opening by its buffers. */
+static void opening_by_handle(void)
+{
+    const poheldu_seeds seeds[] = {{7, 11}, {0x89ABCDEF, 0x12345678}, {0, 11}, {7, 0}};
+    const poheldu_heap one = opened(1024), other = twin_of(one), cut = {one.heap, one.heap_len - 1, one.metadata, 94},
+                       cut_metadata = {one.heap, one.heap_len, one.metadata, 93};
+    for (size_t i = 0; i < sizeof seeds / sizeof *seeds; i++) {
+        const poheldu_answer want = poheldu_open(other.heap, other.heap_len, other.metadata, other.metadata_len,
+                                                 seeds[i].z, seeds[i].w, 0x04030201);
+        EXPECT(is(poheldu_open_heap(&one, seeds[i], 0x04030201), want.number, want.value) && same(one, other));
+    }
+    EXPECT(poheldu_pattern(&one) == 0x04030201 && one.metadata[0] == 0xEF && one.metadata[4] == 0x78);
+    EXPECT(is(poheldu_open_heap(&cut, seeds[0], 0), POHELDU_HEAP_LENGTH, 0));
+    EXPECT(is(poheldu_open_heap(&cut_metadata, seeds[0], 0), POHELDU_METADATA_LENGTH, 0) && same(one, other));
+    closed(other);
+    closed(one);
 }
 
 /* A write past an object and one after a free, in lists of every length; entries past the listed ones are kept. */
 static void stray_writes(void)
 {
     const poheldu_heap h = opened(4096);
-    char *const p = (char *)poheldu_new(&h, 16), *const freed = (char *)poheldu_new(&h, 8);
-    EXPECT(is(poheldu_strcpy(&h, p, "a name that is clipped"), POHELDU_SERVED, 16));
-    EXPECT(is(poheldu_delete(&h, freed), POHELDU_SERVED, 8) && is(poheldu_check(&h, NULL, 0), POHELDU_SERVED, 0));
+    char *const p = (char *)poheldu_allocate(&h, 16), *const freed = (char *)poheldu_allocate(&h, 8);
+    EXPECT(is(poheldu_copy_string(&h, p, "a name that is clipped"), POHELDU_SERVED, 16));
+    EXPECT(is(poheldu_free(&h, freed), POHELDU_SERVED, 8) && is(poheldu_inspect_heap(&h, NULL, 0), POHELDU_SERVED, 0));
     memcpy(p, "a name that is not", 18);
     memcpy(freed + 3, "x", 1);
     memcpy(freed + 5, "y", 1);
@@ -722,7 +746,7 @@ static void stray_writes(void)
     for (size_t len = 0; len <= 4; len++) {
         const int fits = len >= 2;
         memset(list, 0xEE, sizeof list);
-        EXPECT(is(poheldu_check(&h, list, len), fits ? POHELDU_SERVED : POHELDU_LIST_TOO_SHORT, fits ? 2 : 0));
+        EXPECT(is(poheldu_inspect_heap(&h, list, len), fits ? POHELDU_SERVED : POHELDU_LIST_TOO_SHORT, fits ? 2 : 0));
         EXPECT(list[0] == (fits ? gone : 0xEEEEEEEE) && list[1] == (fits ? after : 0xEEEEEEEE));
         EXPECT(list[2] == 0xEEEEEEEE && list[3] == 0xEEEEEEEE);
     }
@@ -732,25 +756,26 @@ static void stray_writes(void)
     closed(h);
 }
 
-/* A served free paints its slot with the pattern that the metadata have; a refused one paints nothing. */
-static void frees_paint(void)
+/* A served free fills its slot with the pattern that the metadata have; a refused one fills nothing. */
+static void frees_fill(void)
 {
     const poheldu_heap h = opened(1024);
     for (size_t size = 1; size <= 512; size *= 2) {
-        uint8_t *const p = (uint8_t *)poheldu_new(&h, size);
+        uint8_t *const p = (uint8_t *)poheldu_allocate(&h, size);
         const poheldu_slot s = poheldu_slot_at(&h, poheldu_offset(&h, p));
         memset(p, 'x', s.len);
-        EXPECT(is(poheldu_delete(&h, p + 1), POHELDU_NOT_A_SLOT_START, 0) && *p == 'x');
-        EXPECT(is(poheldu_delete(&h, p), POHELDU_SERVED, s.len) && shows(poheldu_stray_bytes(&h, s), NULL, 0));
+        EXPECT(is(poheldu_free(&h, p + 1), POHELDU_NOT_A_SLOT_START, 0) && *p == 'x');
+        EXPECT(is(poheldu_free(&h, p), POHELDU_SERVED, s.len) && shows(poheldu_stray_bytes(&h, s), NULL, 0));
         memset(p, 'y', 1);
-        EXPECT(is(poheldu_delete(&h, p), POHELDU_NOT_ALLOCATED, 0) && shows(poheldu_stray_bytes(&h, s), p, 1));
+        EXPECT(is(poheldu_free(&h, p), POHELDU_NOT_ALLOCATED, 0) && shows(poheldu_stray_bytes(&h, s), p, 1));
         memcpy(p, h.heap + s.start + 4, 1);
     }
-    uint32_t *const list = (uint32_t *)allocated(poheldu_slot_count(&h) * sizeof *list);
-    EXPECT(is(poheldu_check(&h, list, poheldu_slot_count(&h)), POHELDU_SERVED, 0));
+    const size_t all = poheldu_slot_count(&h);
+    uint32_t *const list = (uint32_t *)allocated(all * sizeof *list);
+    EXPECT(is(poheldu_inspect_heap(&h, list, all), POHELDU_SERVED, 0));
     h.metadata[POHELDU_PATTERN_AT] ^= 1; /* now no slot holds the pattern */
-    EXPECT(is(poheldu_check(&h, list, poheldu_slot_count(&h)), POHELDU_SERVED, (uint32_t)poheldu_slot_count(&h)));
-    EXPECT(is(poheldu_check(&h, list, poheldu_slot_count(&h) - 1), POHELDU_LIST_TOO_SHORT, 0));
+    EXPECT(is(poheldu_inspect_heap(&h, list, all), POHELDU_SERVED, (uint32_t)all));
+    EXPECT(is(poheldu_inspect_heap(&h, list, all - 1), POHELDU_LIST_TOO_SHORT, 0));
     free(list);
     closed(h);
 }
@@ -828,6 +853,32 @@ static void seeds_drawn(void)
     EXPECT(are(drawn_from(refused + 1, 4), 5, 6) && asked == 4);
 }
 
+/* How many of some objects of a size lie elsewhere under another z with the same w. */
+static unsigned moved_by_z(size_t region, size_t size)
+{
+    enum { OBJECTS = 64 };
+    const poheldu_seeds one = {0x12345678, 0x9ABCDEF1}, other = {0xFEDCBA98, 0x9ABCDEF1};
+    const poheldu_heap h = opened(region);
+    uint32_t offsets[OBJECTS];
+    unsigned moved = 0;
+    EXPECT(is(poheldu_open_heap(&h, one, PATTERN), POHELDU_SERVED, 0));
+    for (int i = 0; i < OBJECTS; i++)
+        offsets[i] = poheldu_allocate_at(&h, size).value;
+    EXPECT(is(poheldu_open_heap(&h, other, PATTERN), POHELDU_SERVED, 0));
+    for (int i = 0; i < OBJECTS; i++)
+        moved += poheldu_allocate_at(&h, size).value != offsets[i];
+    closed(h);
+    return moved;
+}
+
+/* The other half alone places nothing elsewhere, but for the smallest objects in the longest regions. */
+static void seeds_by_half(void)
+{
+    EXPECT(moved_by_z(POHELDU_SMALLEST_REGION, 8) == 0 && moved_by_z(65536, 8) == 0);
+    EXPECT(moved_by_z(POHELDU_LARGEST_REGION / 2, 8) == 0 && moved_by_z(POHELDU_LARGEST_REGION, 9) == 0);
+    EXPECT(moved_by_z(POHELDU_LARGEST_REGION, 8) > 0);
+}
+
 /* ---- macros */
 
 typedef uint8_t heap_array[POHELDU_HEAP_BYTES(1024)], metadata_array[POHELDU_METADATA_BYTES(1 << 12)];
@@ -857,6 +908,7 @@ static void macros(void)
     char version[32];
     snprintf(version, sizeof version, "%d.%d.%d", POHELDU_VERSION_MAJOR, POHELDU_VERSION_MINOR, POHELDU_VERSION_PATCH);
     EXPECT(strcmp(version, POHELDU_VERSION) == 0);
+    EXPECT(poheldu_interface() == POHELDU_INTERFACE);
 }
 
 int main(void)
@@ -865,8 +917,8 @@ int main(void)
     macros();
     wide_numbers();
     objects_of_nothing();
-    deletes();
-    usable_sizes();
+    frees();
+    remaining_sizes();
     ends_of_views();
     views_refused();
     counts_of_objects();
@@ -874,11 +926,13 @@ int main(void)
     counts_believed();
     slots_everywhere();
     no_slots();
-    opening_paints();
+    opening_fills();
+    opening_by_handle();
     stray_writes();
-    frees_paint();
+    frees_fill();
     seeds_judged();
     seeds_drawn();
+    seeds_by_half();
     looks_everywhere();
     destinations_outside();
     ends_of_texts();

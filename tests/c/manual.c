@@ -41,7 +41,8 @@ static poheldu_heap opened(size_t region)
                             calloc(1, POHELDU_METADATA_BYTES(region)), POHELDU_METADATA_BYTES(region)};
     if (h.heap == NULL || h.metadata == NULL)
         abort();
-    const poheldu_answer a = poheldu_open(h.heap, h.heap_len, h.metadata, h.metadata_len, 7, 11, PATTERN);
+    const poheldu_seeds seeds = {7, 11};
+    const poheldu_answer a = poheldu_open_heap(&h, seeds, PATTERN);
     if (a.number != POHELDU_SERVED) {
         printf("region of %zu bytes: %s\n", region, poheldu_name(a.number));
         exit(1);
@@ -54,10 +55,10 @@ static size_t taken(size_t region, size_t least, size_t most, uint32_t *refusal,
 {
     const poheldu_heap h = opened(region);
     size_t count = 0;
-    poheldu_answer a = poheldu_allocate(&h, least);
-    for (; a.number == POHELDU_SERVED; a = poheldu_allocate(&h, count % 2 == 0 ? least : most)) {
+    poheldu_answer a = poheldu_allocate_at(&h, least);
+    for (; a.number == POHELDU_SERVED; a = poheldu_allocate_at(&h, count % 2 == 0 ? least : most)) {
         count++;
-        if (count <= 2 && poheldu_remaining(&h, a.value).value != most)
+        if (count <= 2 && poheldu_remaining_at(&h, a.value).value != most)
             wrong("a size of another class", line);
     }
     *refusal = a.number;

@@ -12,6 +12,9 @@ enum { NUMBERS = POHELDU_LIST_TOO_SHORT + 1, OPERATIONS = 7, CLASSES = 12, REPLI
 /* Inspections that are told apart: by what they list, by what their list lacks, and those refused for a count. */
 enum { NOTHING, WITH_ROOM, JUST_ENOUGH, ONE_TOO_FEW, FEWER, CORRUPT, INSPECTIONS };
 
+/* Lookups that are told apart: where lengths are refused; by class and number, where there is such a slot and where not; by an offset. */
+enum { UNKNOWN, NUMBERED, NOT_NUMBERED, AT_START, FURTHER_ON, IN_NONE, LOOKUPS };
+
 /* Seeds that are told apart: those refused for a half, and those served with what is frozen in the other half. */
 enum { ZERO_Z, ZERO_W, FROZEN_Z, FROZEN_W, EXCHANGED = FROZEN_W + 3, SEEDS };
 
@@ -25,6 +28,7 @@ static struct {
     uint64_t shown[2][2];        /* reads served, by of_page and by whether the part has a byte */
     uint64_t inspected[INSPECTIONS];
     uint64_t seeds[SEEDS]; /* openings of right lengths */
+    uint64_t lookups[LOOKUPS];
 } seen;
 
 /* ---- differences */
@@ -193,6 +197,8 @@ bool calls_saw_all(void)
         all = all && seen.inspected[i] > 0;
     for (int i = 0; i < SEEDS; i++)
         all = all && seen.seeds[i] > 0;
+    for (int i = 0; i < LOOKUPS; i++)
+        all = all && seen.lookups[i] > 0;
     return all;
 }
 
@@ -222,6 +228,10 @@ void calls_report(void)
             seen.seeds[FROZEN_Z]);
     fprintf(stderr, ", w frozen: %" PRIu64 " %" PRIu64 " %" PRIu64 "; served with what is frozen in the other half: %" PRIu64 "\n",
             seen.seeds[FROZEN_W], seen.seeds[FROZEN_W + 1], seen.seeds[FROZEN_W + 2], seen.seeds[EXCHANGED]);
+    fprintf(stderr, "fuzz: lookups where lengths are refused: %" PRIu64 "; by number: %" PRIu64 ", of none: %" PRIu64, seen.lookups[UNKNOWN],
+            seen.lookups[NUMBERED], seen.lookups[NOT_NUMBERED]);
+    fprintf(stderr, "; at a slot's start: %" PRIu64 ", further on: %" PRIu64 ", in none: %" PRIu64 "\n", seen.lookups[AT_START],
+            seen.lookups[FURTHER_ON], seen.lookups[IN_NONE]);
     fprintf(stderr, "fuzz: %" PRIu64 " calls, %" PRIu64 " of them requests\n", calls, seen.requests);
 }
 
@@ -305,4 +315,54 @@ void call_metadata_length(size_t heap_len)
         return;
     fprintf(stderr, "difference at the metadata's length for %zu: library %zu, second implementation %zu\n", heap_len, ours, theirs);
     abort();
+}
+
+/* ---- lookups */
+
+static bool same_slot(poheldu_slot a, poheldu_slot b)
+{
+    return a.size_class == b.size_class && a.number == b.number && a.start == b.start && a.len == b.len;
+}
+
+static void require_same_slot(poheldu_slot ours, poheldu_slot theirs, const char *call, const twin *metadata)
+{
+    if (same_slot(ours, theirs) && twin_equal(metadata))
+        return;
+    fprintf(stderr, "difference at %s: library answers class %" PRIu32 ", number %" PRIu32 ", start %" PRIu32 ", len %" PRIu32, call,
+            ours.size_class, ours.number, ours.start, ours.len);
+    fprintf(stderr, "; second implementation %" PRIu32 ", %" PRIu32 ", %" PRIu32 ", %" PRIu32 "\n", theirs.size_class, theirs.number,
+            theirs.start, theirs.len);
+    stop(BUFFERS(metadata));
+}
+
+static void require_same_size(size_t ours, size_t theirs, const char *call, const twin *metadata)
+{
+    if (ours == theirs && twin_equal(metadata))
+        return;
+    fprintf(stderr, "difference at %s: library answers %zu, second implementation %zu\n", call, ours, theirs);
+    stop(BUFFERS(metadata));
+}
+
+static void count_lookups(bool known, poheldu_slot numbered, poheldu_slot found, uint32_t offset)
+{
+    if (!known) {
+        seen.lookups[UNKNOWN]++;
+        return;
+    }
+    seen.lookups[numbered.len > 0 ? NUMBERED : NOT_NUMBERED]++;
+    seen.lookups[found.len == 0 ? IN_NONE : found.start == offset ? AT_START : FURTHER_ON]++;
+}
+
+void call_lookups(lent_heap h, uint32_t size_class, uint32_t number, uint32_t offset)
+{
+    const twin *const metadata = h.metadata;
+    const size_t heap_len = h.heap->len, len = metadata->len;
+    const uint8_t *const ours = twin_ours(metadata), *const theirs = twin_theirs(metadata);
+    const poheldu_slot numbered = poheldu_nth_slot(heap_len, ours, len, size_class, number), found = poheldu_find_slot(heap_len, ours, len, offset);
+    const size_t all = poheldu_count_slots(heap_len, ours, len);
+    require_same_slot(numbered, reference_nth_slot(heap_len, theirs, len, size_class, number), "a slot by its number", metadata);
+    require_same_slot(found, reference_find_slot(heap_len, theirs, len, offset), "a slot by an offset", metadata);
+    require_same_size(all, reference_count_slots(heap_len, theirs, len), "the number of slots", metadata);
+    require_same_size(poheldu_stored_pattern(heap_len, ours, len), reference_stored_pattern(heap_len, theirs, len), "the pattern", metadata);
+    count_lookups(all > 0, numbered, found, offset);
 }

@@ -22,6 +22,9 @@ poheldu_answer call_inspect(lent_heap h, const twin *list); /* the list's length
 void call_vote(const twin *blocks, size_t replicas, size_t block_len, const twin *output);
 void call_metadata_length(size_t heap_len);
 
+/* The four lookups of slots: by class and number, by offset, how many there are, and the pattern. */
+void call_lookups(lent_heap h, uint32_t size_class, uint32_t number, uint32_t offset);
+
 /* No heap here has longer regions. */
 enum { LONGEST_REGION = 8192, MOST_LISTED = POHELDU_ALL_SLOTS(LONGEST_REGION) };
 
@@ -30,7 +33,7 @@ uint32_t hits_of(lent_heap h);
 
 /*
  * Whether every refusal, every operation served, the walk, and every kind of seeds, of string, of corrupt metadata, of
- * part shown and of inspection have come.
+ * part shown, of inspection and of lookup have come.
  */
 bool calls_saw_all(void);
 

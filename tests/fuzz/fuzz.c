@@ -80,6 +80,7 @@ static void wrong_lengths(run *r)
         read_any(r);
     else
         inspect_any(r);
+    look_up_any(r);
     twin_lend(r->lent.heap, heap_len);
     twin_lend(r->lent.metadata, metadata_len);
 }
@@ -126,6 +127,9 @@ static void step(run *r)
         break;
     case 12:
         inspect_any(r);
+        break;
+    case 13:
+        look_up_any(r);
         break;
     default:
         serve_any(r);

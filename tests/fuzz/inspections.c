@@ -8,7 +8,7 @@
 /* One byte over and over, bytes that count up, or the pattern out of step. */
 static uint8_t stray_byte(const run *r, uint32_t kind, uint8_t first, size_t at)
 {
-    const poheldu_heap h = {.metadata = twin_ours(r->lent.metadata), .metadata_len = r->lent.metadata->len};
+    const poheldu_heap h = {.heap_len = r->lent.heap->len, .metadata = twin_ours(r->lent.metadata), .metadata_len = r->lent.metadata->len};
     if (kind == 0)
         return first;
     return kind == 1 ? (uint8_t)(first + at) : (uint8_t)(poheldu_pattern(&h) >> (at + 1) % 4 * 8);
@@ -58,4 +58,14 @@ void inspect_any(run *r)
         fprintf(stderr, "both list a slot that nobody wrote to\n");
         abort();
     }
+}
+
+/* ---- lookups */
+
+/* Slots of each class and one past its last, of a class past the last, or any. */
+void look_up_any(run *r)
+{
+    choices *const c = &r->input;
+    const uint32_t class = below(c, CLASSES + 1), any = next_word(c), number = below(c, 4) == 0 ? any : any % (slots(r, class) + 1);
+    call_lookups(r->lent, class < CLASSES ? class : any, number, any_offset(r));
 }

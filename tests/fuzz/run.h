@@ -60,9 +60,10 @@ void serve_any(run *r);
 void read_any(run *r);
 void allocate_some(run *r, uint32_t class, uint32_t times);
 
-/* Canaries (inspections.c): others write to the heap; an inspection. */
+/* Canaries (inspections.c): others write to the heap; an inspection; lookups of slots. */
 void scribble(run *r);
 void inspect_any(run *r);
+void look_up_any(run *r);
 
 /* Votes (votes.c). */
 void vote_any(run *r);

@@ -14,5 +14,9 @@ poheldu_answer reference_inspect(const uint8_t *heap, size_t heap_len, const uin
                                  size_t list_len);
 poheldu_verdict reference_vote(const uint8_t *blocks, size_t blocks_len, size_t replicas, size_t block_len, uint8_t *output, size_t output_len);
 size_t reference_metadata_length(size_t heap_len);
+poheldu_slot reference_nth_slot(size_t heap_len, const uint8_t *metadata, size_t metadata_len, uint32_t size_class, uint32_t number);
+poheldu_slot reference_find_slot(size_t heap_len, const uint8_t *metadata, size_t metadata_len, uint32_t offset);
+size_t reference_count_slots(size_t heap_len, const uint8_t *metadata, size_t metadata_len);
+uint32_t reference_stored_pattern(size_t heap_len, const uint8_t *metadata, size_t metadata_len);
 
 #endif

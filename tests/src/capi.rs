@@ -1,7 +1,7 @@
 //! The proved library's C interface, with safe wrappers over slices.
 //! All unsafe code of this package is here and in `exported`.
 
-use crate::reference::{Answer, Part, Verdict};
+use crate::reference::{Answer, Part, SlotNumbers, Verdict};
 
 extern "C" {
     fn poheldu_open(
@@ -57,6 +57,25 @@ extern "C" {
     ) -> Verdict;
 
     fn poheldu_metadata_length(heap_len: usize) -> usize;
+
+    fn poheldu_nth_slot(
+        heap_len: usize,
+        metadata: *const u8,
+        metadata_len: usize,
+        size_class: u32,
+        number: u32,
+    ) -> SlotNumbers;
+
+    fn poheldu_find_slot(
+        heap_len: usize,
+        metadata: *const u8,
+        metadata_len: usize,
+        offset: u32,
+    ) -> SlotNumbers;
+
+    fn poheldu_count_slots(heap_len: usize, metadata: *const u8, metadata_len: usize) -> usize;
+
+    fn poheldu_stored_pattern(heap_len: usize, metadata: *const u8, metadata_len: usize) -> u32;
 }
 
 /// How an empty slice is passed: by its own (dangling) address, or as NULL.
@@ -230,6 +249,34 @@ pub fn vote_with(
             output.len(),
         )
     }
+}
+
+// The four lookups of slots: each with empty slices passed as `empty` says.
+// SAFETY of each: the pointer is valid for its length, or that is 0; all else
+// are mere numbers that the library judges.
+
+pub fn nth_slot_with(
+    empty: Empty,
+    heap_len: usize,
+    metadata: &[u8],
+    class: u32,
+    number: u32,
+) -> SlotNumbers {
+    let (pointer, len) = (empty.shared(metadata), metadata.len());
+    unsafe { poheldu_nth_slot(heap_len, pointer, len, class, number) }
+}
+
+pub fn find_slot_with(empty: Empty, heap_len: usize, metadata: &[u8], offset: u32) -> SlotNumbers {
+    let (pointer, len) = (empty.shared(metadata), metadata.len());
+    unsafe { poheldu_find_slot(heap_len, pointer, len, offset) }
+}
+
+pub fn count_slots_with(empty: Empty, heap_len: usize, metadata: &[u8]) -> usize {
+    unsafe { poheldu_count_slots(heap_len, empty.shared(metadata), metadata.len()) }
+}
+
+pub fn stored_pattern_with(empty: Empty, heap_len: usize, metadata: &[u8]) -> u32 {
+    unsafe { poheldu_stored_pattern(heap_len, empty.shared(metadata), metadata.len()) }
 }
 
 #[cfg(test)]

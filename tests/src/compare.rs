@@ -3,7 +3,7 @@
 
 use crate::capi::{self, Empty};
 use crate::inputs::{self, Shape, FROZEN_W, FROZEN_Z};
-use crate::reference::{self, Answer, Part, Verdict};
+use crate::reference::{self, Answer, Part, SlotNumbers, Verdict};
 use std::fmt::{self, Debug, Display, LowerHex};
 
 const MOST_BYTES_SHOWN: usize = 4_096;
@@ -16,6 +16,7 @@ const CORRUPT: usize = 8;
 const INSPECTIONS: usize = 9;
 const LISTED: usize = 7;
 const SEEDS: usize = 8;
+const LOOKUPS: usize = 6;
 /// Of longer lists the slots are not told apart.
 const MOST_TOLD_APART: usize = 64;
 /// The refusal of metadata that no opening and no request left so.
@@ -93,6 +94,17 @@ pub const SEED_KINDS: [&str; SEEDS] = [
     "with the third frozen w",
     "next to a frozen half, served",
     "with what is frozen in the other half, served",
+];
+
+/// The kinds of lookups of slots that are told apart, in the order they are
+/// counted in. One is of two kinds where lengths are right.
+pub const LOOKUP_KINDS: [&str; LOOKUPS] = [
+    "where lengths are refused",
+    "of a class that has the number",
+    "of a class that has not",
+    "at a slot's start",
+    "further into a slot",
+    "in no slot",
 ];
 
 /// What buffers are made of: bytes, or the numbers of a list.
@@ -240,6 +252,12 @@ enum Name {
         output_len: usize,
     },
     MetadataLength(usize),
+    LookUp {
+        heap_len: usize,
+        class: u32,
+        number: u32,
+        offset: u32,
+    },
 }
 
 struct Hex<'a>(&'a [u8]);
@@ -289,6 +307,15 @@ impl Display for Name {
                 write!(f, "output of {output_len} bytes")
             }
             Name::MetadataLength(heap_len) => write!(f, "metadata_length {heap_len}"),
+            Name::LookUp {
+                heap_len,
+                class,
+                number,
+                offset,
+            } => {
+                write!(f, "slot {number} of class {class}, slot at {offset}, ")?;
+                write!(f, "heap of {heap_len} bytes")
+            }
         }
     }
 }
@@ -319,6 +346,56 @@ fn serve_both(
         reference::serve(heap_a, metadata_a, request_a, source_a, page_a),
         capi::serve_with(empty, heap_b, metadata_b, request_b, source_b, page_b),
     )
+}
+
+/// What is asked of a heap's slots: one by class and number, one by an offset.
+#[derive(Clone, Copy)]
+pub struct Asked {
+    pub class: u32,
+    pub number: u32,
+    pub offset: u32,
+}
+
+/// What the four lookups answer.
+#[derive(Debug, PartialEq, Eq)]
+struct Found {
+    nth: SlotNumbers,
+    at: SlotNumbers,
+    slots: usize,
+    pattern: u32,
+}
+
+impl Found {
+    fn by_reference(heap_len: usize, metadata: &[u8], asked: Asked) -> Found {
+        Found {
+            nth: reference::nth_slot(heap_len, metadata, asked.class, asked.number),
+            at: reference::find_slot(heap_len, metadata, asked.offset),
+            slots: reference::count_slots(heap_len, metadata),
+            pattern: reference::stored_pattern(heap_len, metadata),
+        }
+    }
+
+    fn by_library(empty: Empty, heap_len: usize, metadata: &[u8], asked: Asked) -> Found {
+        Found {
+            nth: capi::nth_slot_with(empty, heap_len, metadata, asked.class, asked.number),
+            at: capi::find_slot_with(empty, heap_len, metadata, asked.offset),
+            slots: capi::count_slots_with(empty, heap_len, metadata),
+            pattern: capi::stored_pattern_with(empty, heap_len, metadata),
+        }
+    }
+
+    /// Which of `LOOKUP_KINDS` they are.
+    fn kinds(&self, offset: u32) -> [bool; LOOKUPS] {
+        let (known, has, at) = (self.slots > 0, self.nth.len > 0, self.at);
+        [
+            !known,
+            has,
+            known && !has,
+            at.len > 0 && at.start == offset,
+            at.len > 0 && at.start < offset,
+            known && at.len == 0,
+        ]
+    }
 }
 
 /// Which of `READ_KINDS` a read of `count` bytes was.
@@ -439,6 +516,8 @@ pub struct Tester {
     pub listed: [u64; LISTED],
     /// Openings of right lengths, of each kind of seeds.
     pub seeds: [u64; SEEDS],
+    /// Lookups of slots, of each kind.
+    pub lookups: [u64; LOOKUPS],
     /// Inspections in runs from an opening in which nobody else wrote.
     pub clean: u64,
     /// Inspections that list something, made again with other bytes in live slots
@@ -470,6 +549,7 @@ impl Tester {
             inspections: [0; INSPECTIONS],
             listed: [0; LISTED],
             seeds: [0; SEEDS],
+            lookups: [0; LOOKUPS],
             clean: 0,
             changed: 0,
             walks: 0,
@@ -659,6 +739,31 @@ impl Tester {
         };
         self.check(&call, expected, length);
         length
+    }
+
+    /// The four lookups of slots, as one call.
+    pub fn look_up(&mut self, heap: &Twin, metadata: &mut Twin, asked: Asked) {
+        let empty = self.next_call(metadata.bytes());
+        self.count_nulls(empty, &[(1, metadata.shown)]);
+        let heap_len = heap.shown;
+        let (metadata_a, metadata_b) = metadata.parts();
+        let expected = Found::by_reference(heap_len, metadata_a, asked);
+        let found = Found::by_library(empty, heap_len, metadata_b, asked);
+        let kinds = expected.kinds(asked.offset);
+        let call = Call {
+            name: Name::LookUp {
+                heap_len,
+                class: asked.class,
+                number: asked.number,
+                offset: asked.offset,
+            },
+            buffers: &[("metadata before", &self.before)],
+        };
+        self.check(&call, expected, found);
+        self.check_bytes(&call, &[("metadata", metadata)]);
+        for (count, is_kind) in self.lookups.iter_mut().zip(kinds) {
+            *count += u64::from(is_kind);
+        }
     }
 
     /// Counts the call and says how it passes empty buffers.

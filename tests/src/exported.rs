@@ -1,7 +1,7 @@
 //! The second implementation for C: the functions of include/poheldu.h, under
 //! names of their own, for the fuzzer to hold against the library's.
 
-use crate::reference::{self, Answer, Part, Verdict};
+use crate::reference::{self, Answer, Part, SlotNumbers, Verdict};
 
 /// # Safety
 /// `bytes` is valid for `len` bytes, or `len` is 0.
@@ -121,4 +121,51 @@ pub unsafe extern "C" fn reference_vote(
 #[no_mangle]
 pub extern "C" fn reference_metadata_length(heap_len: usize) -> usize {
     reference::metadata_length(heap_len)
+}
+
+/// # Safety
+/// As include/poheldu.h asks of `poheldu_nth_slot`.
+#[no_mangle]
+pub unsafe extern "C" fn reference_nth_slot(
+    heap_len: usize,
+    metadata: *const u8,
+    metadata_len: usize,
+    size_class: u32,
+    number: u32,
+) -> SlotNumbers {
+    reference::nth_slot(heap_len, shared(metadata, metadata_len), size_class, number)
+}
+
+/// # Safety
+/// As include/poheldu.h asks of `poheldu_find_slot`.
+#[no_mangle]
+pub unsafe extern "C" fn reference_find_slot(
+    heap_len: usize,
+    metadata: *const u8,
+    metadata_len: usize,
+    offset: u32,
+) -> SlotNumbers {
+    reference::find_slot(heap_len, shared(metadata, metadata_len), offset)
+}
+
+/// # Safety
+/// As include/poheldu.h asks of `poheldu_count_slots`.
+#[no_mangle]
+pub unsafe extern "C" fn reference_count_slots(
+    heap_len: usize,
+    metadata: *const u8,
+    metadata_len: usize,
+) -> usize {
+    reference::count_slots(heap_len, shared(metadata, metadata_len))
+}
+
+/// # Safety
+/// As include/poheldu.h asks of `poheldu_stored_pattern`.
+#[no_mangle]
+pub unsafe extern "C" fn reference_stored_pattern(
+    heap_len: usize,
+    metadata: *const u8,
+    metadata_len: usize,
+) -> u32 {
+    reference::stored_pattern(heap_len, shared(metadata, metadata_len))
 }

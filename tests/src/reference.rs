@@ -81,6 +81,17 @@ pub struct Verdict {
     pub replica: u32,
 }
 
+/// A slot in numbers: its class, its number there, and where its bytes lie.
+/// Zeros where there is none.
+#[derive(Clone, Copy, Debug, Default, PartialEq, Eq)]
+#[repr(C)]
+pub struct SlotNumbers {
+    pub size_class: u32,
+    pub number: u32,
+    pub start: u32,
+    pub len: u32,
+}
+
 /// The refusals, with their numbers.
 #[derive(Clone, Copy, Debug, PartialEq, Eq)]
 #[repr(u32)]
@@ -163,6 +174,41 @@ pub fn vote(blocks: &[u8], replicas: usize, block_len: usize, output: &mut [u8])
 /// Metadata length for a heap of this length; 0 where that is not allowed.
 pub fn metadata_length(heap_len: usize) -> usize {
     Layout::of_heap(heap_len).map_or(0, Layout::metadata_length)
+}
+
+/// The slot of a class with a number. Lengths are judged as a request's are;
+/// this and the next three answer zeros where they are refused.
+pub fn nth_slot(heap_len: usize, metadata: &[u8], class: u32, number: u32) -> SlotNumbers {
+    let (class, index) = (class as usize, number as usize);
+    match Layout::of_lengths(heap_len, metadata.len()) {
+        Ok(layout) if class < CLASSES && index < layout.slots(class) => {
+            layout.numbers(Slot { class, index })
+        }
+        _ => SlotNumbers::default(),
+    }
+}
+
+/// The slot that an offset lies in.
+pub fn find_slot(heap_len: usize, metadata: &[u8], offset: u32) -> SlotNumbers {
+    let layout = Layout::of_lengths(heap_len, metadata.len());
+    match layout.map(|layout| (layout, layout.slot_at(offset))) {
+        Ok((layout, Ok(Some(slot)))) => layout.numbers(slot),
+        _ => SlotNumbers::default(),
+    }
+}
+
+/// How many slots the heap has in all classes.
+pub fn count_slots(heap_len: usize, metadata: &[u8]) -> usize {
+    let layout = Layout::of_lengths(heap_len, metadata.len());
+    layout.map_or(0, |layout| {
+        (0..CLASSES).map(|class| layout.slots(class)).sum()
+    })
+}
+
+/// The pattern that clear slots hold.
+pub fn stored_pattern(heap_len: usize, metadata: &[u8]) -> u32 {
+    let layout = Layout::of_lengths(heap_len, metadata.len());
+    layout.map_or(0, |_| word(metadata, PATTERN_START))
 }
 
 fn try_open(
@@ -380,6 +426,15 @@ impl Layout {
 
     fn slot_start(self, slot: Slot) -> u32 {
         ((slot.class << self.shift) + (slot.index << slot_shift(slot.class))) as u32
+    }
+
+    fn numbers(self, slot: Slot) -> SlotNumbers {
+        SlotNumbers {
+            size_class: slot.class as u32,
+            number: slot.index as u32,
+            start: self.slot_start(slot),
+            len: 1 << slot_shift(slot.class),
+        }
     }
 
     /// The slot that an offset lies in; none where its region has no slots.
@@ -1388,5 +1443,38 @@ mod tests {
         bench.metadata[BITMAPS..].fill(0xFF);
         assert!(bench.refuses(0, 8, 13) && bench.refuses(1, 0, 13));
         assert_eq!(bench.inspect(), []);
+    }
+
+    #[test]
+    fn slots_are_found_where_they_lie() {
+        let slot = |size_class, number, start, len| SlotNumbers {
+            size_class,
+            number,
+            start,
+            len,
+        };
+        let (heap_len, none) = (12 * 1_024, SlotNumbers::default());
+        let mut metadata = vec![0; 94];
+        metadata[56..60].copy_from_slice(&FOUR);
+        assert_eq!(nth_slot(heap_len, &metadata, 5, 3), slot(5, 3, 5_888, 256));
+        assert_eq!(nth_slot(heap_len, &metadata, 5, 4), none);
+        assert_eq!(nth_slot(heap_len, &metadata, 8, 0), none);
+        assert_eq!(nth_slot(heap_len, &metadata, 12, 0), none);
+        assert_eq!(
+            find_slot(heap_len, &metadata, 6_143),
+            slot(5, 3, 5_888, 256)
+        );
+        assert_eq!(
+            find_slot(heap_len, &metadata, 6_144),
+            slot(6, 0, 6_144, 512)
+        );
+        assert_eq!(find_slot(heap_len, &metadata, 8_192), none);
+        assert_eq!(find_slot(heap_len, &metadata, 12_288), none);
+        assert_eq!(count_slots(heap_len, &metadata), 255);
+        assert_eq!(stored_pattern(heap_len, &metadata), 0x4433_2211);
+        assert_eq!(nth_slot(heap_len, &metadata[1..], 0, 0), none);
+        assert_eq!(find_slot(heap_len - 1, &metadata, 0), none);
+        assert_eq!(count_slots(heap_len - 1, &metadata), 0);
+        assert_eq!(stored_pattern(heap_len, &metadata[1..]), 0);
     }
 }

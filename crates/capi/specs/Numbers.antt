@@ -40,3 +40,7 @@ partOf c =
 -- the metadata's length for a heap's length; 0 where no heap has it
 abbrev pub metadataBytes : ℕ → ℕ
 metadataBytes n = cond (eqb (regionOf n) 0) 0 (metadataLength (layoutOf n))
+
+-- the number of the interface that an object must be compiled against
+abbrev pub interface : ℕ
+interface = 1

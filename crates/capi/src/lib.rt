@@ -1,5 +1,7 @@
 // The C interface (include/poheldu.h): a buffer passes as a pointer and a length. Each function only turns answers into
 // numbers.
+mod slots;
+
 ghost use mathlib.Core.Path.{_≡_};
 ghost use lib.ListN.{length};
 ghost use Rattle.answer.specs.Reply.{replyOf};
@@ -8,9 +10,13 @@ ghost use Rattle.rules.specs.Serve.{lentWith};
 ghost use Rattle.rules.specs.Call.{call, reading, opening};
 ghost use Rattle.rules.specs.Inspect.{inspection};
 ghost use Rattle.vote.specs.Decide.{decide, tally, outputAfter, NamesWinner};
-ghost use Rattle.capi.specs.Numbers.{replyIn, tallyIn, partOf, metadataBytes};
+ghost use Rattle.capi.specs.Numbers.{replyIn, tallyIn, partOf, metadataBytes, interface};
+ghost use Rattle.capi.specs.Slots.{nthSlot, findSlot, countSlots, storedPattern};
 use answer::Answer;
+use geometry::CANARY;
 use geometry::Plan;
+use numbers::wide;
+use rules::Judged;
 use rules::Place;
 use vote::Verdict;
 
@@ -34,6 +40,15 @@ pub struct PohelduPart {
     pub value: u32,
     pub of_page: u32,
     pub start: u32,
+}
+
+// A slot, live or clear: its class and its number there, and where its bytes lie.
+#[repr(C)]
+pub struct PohelduSlot {
+    pub size_class: u32,
+    pub number: u32,
+    pub start: u32,
+    pub len: u32,
 }
 
 fn in_numbers(answer: Answer) -> PohelduAnswer
@@ -162,4 +177,66 @@ pub extern "C" fn poheldu_metadata_length(heap_len: usize) -> usize
         return 0;
     }
     plan.metadata
+}
+
+// ---- What lies where: lengths are judged as a request's are, and all is 0 where they are refused.
+
+// The slot of a class with a number.
+#[no_mangle]
+pub extern "C" fn poheldu_nth_slot(
+    heap_len: usize,
+    metadata: &[u8],
+    size_class: u32,
+    number: u32,
+) -> PohelduSlot
+    ensures { λ r. ⌜ r ≡ nthSlot «heap_len» (now (metadata .entry)) «size_class» number ⌝ }
+{
+    match judge::lengths(heap_len, metadata.len()) {
+        Judged::Unfit(_) => slots::none(),
+        Judged::Laid(layout) => slots::numbered(layout, wide(size_class), wide(number)),
+    }
+}
+
+// The slot that an offset lies in.
+#[no_mangle]
+pub extern "C" fn poheldu_find_slot(heap_len: usize, metadata: &[u8], offset: u32) -> PohelduSlot
+    ensures { λ r. ⌜ r ≡ findSlot «heap_len» (now (metadata .entry)) offset ⌝ }
+{
+    match judge::lengths(heap_len, metadata.len()) {
+        Judged::Unfit(_) => slots::none(),
+        Judged::Laid(layout) => {
+            let at = layout.locate(offset);
+            slots::numbered(layout, at.class, at.slot)
+        }
+    }
+}
+
+// How many slots there are in all classes.
+#[no_mangle]
+pub extern "C" fn poheldu_count_slots(heap_len: usize, metadata: &[u8]) -> usize
+    ensures { λ r. ⌜ r ≡ countSlots «heap_len» (now (metadata .entry)) ⌝ }
+{
+    match judge::lengths(heap_len, metadata.len()) {
+        Judged::Unfit(_) => 0,
+        Judged::Laid(layout) => slots::all(layout),
+    }
+}
+
+// The pattern, which the rules call a canary.
+#[no_mangle]
+pub extern "C" fn poheldu_stored_pattern(heap_len: usize, metadata: &[u8]) -> u32
+    ensures { λ r. ⌜ r ≡ storedPattern «heap_len» (now (metadata .entry)) ⌝ }
+{
+    match judge::lengths(heap_len, metadata.len()) {
+        Judged::Unfit(_) => 0,
+        Judged::Laid(_) => words::get(metadata, CANARY),
+    }
+}
+
+// The interface's number, which its name has too: an object compiled against another refers to a name that is not here.
+#[no_mangle]
+pub extern "C" fn poheldu_interface_1() -> u32
+    ensures { λ r. ⌜ r ≡ interface ⌝ }
+{
+    1
 }

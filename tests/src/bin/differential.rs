@@ -4,9 +4,10 @@
 //! Arguments: --calls N (default 1,000,000), --seed N (default: from the clock),
 //! --progress (a line on standard error at each twentieth of the calls).
 
-use poheldu_tests::compare::{self, Lent, Tester, Twin};
+use poheldu_tests::compare::{self, Asked, Lent, Tester, Twin};
 use poheldu_tests::compare::{
-    CORRUPT_KINDS, INSPECTION_KINDS, LISTED_KINDS, READ_KINDS, SEED_KINDS, STRING_KINDS,
+    CORRUPT_KINDS, INSPECTION_KINDS, LISTED_KINDS, LOOKUP_KINDS, READ_KINDS, SEED_KINDS,
+    STRING_KINDS,
 };
 use poheldu_tests::inputs::{self, Shape, CLASSES, FROZEN_DRAW, FROZEN_W, FROZEN_Z};
 use poheldu_tests::random::Random;
@@ -60,6 +61,7 @@ fn main() {
         painted_slots(&mut tester, shape);
         inspected_edges(&mut tester, shape);
         inspected_slots(&mut tester, shape);
+        looked_up_slots(&mut tester, shape);
         traps(&mut tester, &mut rng, shape);
     }
     most_slots(&mut tester, &mut rng);
@@ -149,6 +151,7 @@ fn report(tester: &Tester) {
     report_kinds("inspections", &INSPECTION_KINDS, &tester.inspections);
     report_kinds("slots listed", &LISTED_KINDS, &tester.listed);
     report_kinds("openings", &SEED_KINDS, &tester.seeds);
+    report_kinds("lookups", &LOOKUP_KINDS, &tester.lookups);
     println!(
         "inspections where nobody else wrote: {}, made again with other bytes elsewhere: {}",
         tester.clean, tester.changed
@@ -175,8 +178,8 @@ fn report_kinds(what: &str, kinds: &[&str], counts: &[u64]) {
 }
 
 /// Every refusal number, operation, walk, NULL, kind of read, of string, of
-/// refusal with 13, of inspection, of listed slot and of seeds, and size at an
-/// edge has to occur.
+/// refusal with 13, of inspection, of listed slot, of seeds and of lookup, and
+/// size at an edge has to occur.
 fn require_coverage(tester: &Tester) {
     let seen = [
         &tester.counts[..],
@@ -191,6 +194,7 @@ fn require_coverage(tester: &Tester) {
         &tester.inspections,
         &tester.listed,
         &tester.seeds,
+        &tester.lookups,
         &[tester.clean, tester.changed],
         &[tester.walks, tester.wraps],
     ];
@@ -305,6 +309,15 @@ impl Session {
             "an inspection of other bytes in live slots and outside slots",
         );
         tester.changed += u64::from(!first.1.is_empty());
+    }
+
+    fn look_up(&mut self, tester: &mut Tester, class: u32, number: u32, offset: u32) {
+        let asked = Asked {
+            class,
+            number,
+            offset,
+        };
+        tester.look_up(&self.heap, &mut self.metadata, asked);
     }
 
     fn expect_no_corruption(&self, number: u32) {
@@ -731,6 +744,7 @@ fn null_session(tester: &mut Tester, session: &mut Session) {
             session.run(tester, ALLOCATE, 8);
             session.read(tester, 0, 8, &[]);
             session.inspect(tester, 0);
+            session.look_up(tester, 0, 0, 0);
         }
     }
     session.show_all();
@@ -1044,6 +1058,25 @@ fn fill_class(tester: &mut Tester, session: &mut Session) {
     while session.run(tester, ALLOCATE, size).number == 0 {}
 }
 
+/// The first and the last slot of each class and the one past it, their first
+/// and last bytes, and what lies past the last class and the heap's end.
+fn looked_up_slots(tester: &mut Tester, shape: Shape) {
+    let mut session = Session::counting(shape);
+    for class in 0..=CLASSES {
+        let start = (class * shape.region) as u32;
+        let size = inputs::slot_size(class) as u32;
+        let slots = (shape.region / inputs::slot_size(class)) as u32;
+        for number in [0, slots.saturating_sub(1), slots, u32::MAX] {
+            let at = start.saturating_add(number.saturating_mul(size));
+            for offset in [at.saturating_sub(1), at, at.saturating_add(size - 1)] {
+                session.look_up(tester, class as u32, number, offset);
+            }
+        }
+    }
+    session.look_up(tester, u32::MAX, 0, shape.heap_len() as u32);
+    session.look_up(tester, u32::MAX, u32::MAX, u32::MAX);
+}
+
 // --- Random calls ---
 
 fn random_calls(tester: &mut Tester, rng: &mut Random, calls: u64) {
@@ -1091,6 +1124,7 @@ fn wrong_lengths(tester: &mut Tester, rng: &mut Random) {
         session.open_with(tester, z, w, inputs::pattern(rng));
         random_serve(tester, rng, &mut session, &[]);
         random_read(tester, rng, &mut session, &[]);
+        random_lookup(tester, rng, &mut session, &[]);
         session.inspect(tester, rng.below(3));
     }
 }
@@ -1107,6 +1141,13 @@ fn random_serve(
     let (source, page) = (inputs::source(rng), inputs::page(rng));
     let answer = session.serve(tester, &request, &source, &page);
     (request.first().copied(), answer)
+}
+
+fn random_lookup(tester: &mut Tester, rng: &mut Random, session: &mut Session, allocated: &[u32]) {
+    let offset = inputs::offset(rng, session.shape, allocated);
+    let class = rng.below(CLASSES + 1);
+    let most = session.shape.region / inputs::slot_size(class) + 1;
+    session.look_up(tester, class as u32, rng.below(most) as u32, offset);
 }
 
 fn random_read(tester: &mut Tester, rng: &mut Random, session: &mut Session, allocated: &[u32]) {
@@ -1211,6 +1252,7 @@ fn random_step(
         (71..=77, _) => random_read(tester, rng, session, allocated),
         (78..=81, _) => random_inspection(tester, rng, session),
         (82..=86, _) if session.others_write => random_scribble(rng, session, allocated),
+        (87..=89, _) => random_lookup(tester, rng, session, allocated),
         _ => {
             let (operation, answer) = random_serve(tester, rng, session, allocated);
             if operation == Some(ALLOCATE) {
@@ -1223,6 +1265,7 @@ fn random_step(
         cut_lengths(rng, session);
         session.run(tester, ALLOCATE, 8);
         random_read(tester, rng, session, allocated);
+        random_lookup(tester, rng, session, allocated);
         session.inspect(tester, rng.below(3));
         session.show_all();
     }
