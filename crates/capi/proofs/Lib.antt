@@ -1,1 +1,2 @@
+-- Worked examples of the C interface's own numbers.
 pub mod Examples
