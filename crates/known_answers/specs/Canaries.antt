@@ -111,8 +111,8 @@ canaries =
     -- slots hit in two classes, with a list that is just long enough, and with one that is an entry too short
     ∷ row (inspecting twoHit fewClear (7 ∷ 8 ∷ [])) (0 ∷ 2 ∷ 40 ∷ 5_376 ∷ [])
     ∷ row (inspecting twoHit fewClear (7 ∷ [])) (14 ∷ 0 ∷ 7 ∷ [])
-    -- a byte changed in each of nine slots: of slot 96 of class 0 the first, of the next the second, .., of slot 103 the
-    -- eighth, and of class 7's only slot the 300th
+    -- a byte changed in each of nine slots: of slot 96 of class 0 the first, of the next the second, .., of slot 103
+    -- the eighth, and of class 7's only slot the 300th
     ∷ row (inspecting (changed (768 ∷ 777 ∷ 786 ∷ 795 ∷ 804 ∷ 813 ∷ 822 ∷ 831 ∷ 7_467 ∷ [])) laterClear (replicate 9 7))
     (0 ∷ 9 ∷ 768 ∷ 776 ∷ 784 ∷ 792 ∷ 800 ∷ 808 ∷ 816 ∷ 824 ∷ 7_168 ∷ [])
     -- refused before that as requests are: 65 of 128 counted in class 0, and a heap and metadata a byte short
