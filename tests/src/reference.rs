@@ -180,7 +180,7 @@ fn try_open(
     Generator { z, w }.store(metadata);
     set_word(metadata, PATTERN_START, pattern);
     for class in 0..CLASSES {
-        paint(&mut heap[layout.all_slots(class)], pattern_of(metadata));
+        fill(&mut heap[layout.all_slots(class)], pattern_of(metadata));
     }
     Ok(0)
 }
@@ -492,14 +492,14 @@ fn choose_slot(generator: &mut Generator, bitmap: &[u8], slots: usize) -> Option
 
 /// Fills slots that lie side by side. The pattern begins anew at each of them,
 /// since it divides the length of every slot.
-fn paint(slots: &mut [u8], pattern: [u8; 4]) {
+fn fill(slots: &mut [u8], pattern: [u8; 4]) {
     let (fours, _) = slots.as_chunks_mut();
     fours.fill(pattern);
 }
 
 /// Whether a slot holds the pattern throughout. Mostly it does: a loop without
 /// an exit takes less time then.
-fn is_painted(slot: &[u8], pattern: [u8; 4]) -> bool {
+fn is_filled(slot: &[u8], pattern: [u8; 4]) -> bool {
     let (fours, _) = slot.as_chunks();
     let pattern = u32::from_le_bytes(pattern);
     let strays = |bits, &four: &[u8; 4]| bits | (u32::from_le_bytes(four) ^ pattern);
@@ -522,7 +522,7 @@ fn hit_slots(layout: Layout, heap: &[u8], metadata: &[u8]) -> Vec<u32> {
         let bitmap = &metadata[layout.bitmap(class)];
         let slots = heap[layout.all_slots(class)].chunks_exact(1 << slot_shift(class));
         for (index, slot) in slots.enumerate() {
-            if !is_live(bitmap, index) && !is_painted(slot, pattern) {
+            if !is_live(bitmap, index) && !is_filled(slot, pattern) {
                 hit.push(layout.slot_start(Slot { class, index }));
             }
         }
@@ -569,7 +569,7 @@ fn free(layout: Layout, heap: &mut [u8], metadata: &mut [u8], offset: u32) -> Re
     set_live_count(metadata, slot.class, left);
     let size = 1 << slot_shift(slot.class);
     let start = offset as usize;
-    paint(&mut heap[start..start + size], pattern_of(metadata));
+    fill(&mut heap[start..start + size], pattern_of(metadata));
     Ok(size as u32)
 }
 
@@ -1244,15 +1244,15 @@ mod tests {
     }
 
     #[test]
-    fn opening_paints_slots_alone() {
+    fn opening_fills_slots_alone() {
         // Regions of 1,024 bytes have slots in classes 0 to 7, of 4,096 in 0 to 9.
         for (region, slots_end) in [(1_024, 8 * 1_024), (4_096, 10 * 4_096)] {
             let mut heap = vec![0x55; 12 * region];
             let mut metadata = vec![0x55; metadata_length(heap.len())];
             let pattern = u32::from_le_bytes(FOUR);
             assert_eq!(open(&mut heap, &mut metadata, 1, 1, pattern), served(0));
-            let painted = |(at, &byte): (usize, &u8)| byte == FOUR[at % 4];
-            assert!(heap[..slots_end].iter().enumerate().all(painted));
+            let filled = |(at, &byte): (usize, &u8)| byte == FOUR[at % 4];
+            assert!(heap[..slots_end].iter().enumerate().all(filled));
             assert!(heap[slots_end..].iter().all(|&byte| byte == 0x55));
             assert_eq!(metadata[56..60], FOUR);
         }
@@ -1273,7 +1273,7 @@ mod tests {
     }
 
     #[test]
-    fn served_free_paints_its_slot() {
+    fn served_free_fills_its_slot() {
         let mut bench = Bench::with_object();
         bench.heap[632..656].copy_from_slice(b"beforeit--object--behind");
         assert!(bench.refuses(1, 641, 9) && bench.refuses(1, 648, 10));
