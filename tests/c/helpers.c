@@ -689,8 +689,8 @@ static void no_slots(void)
     closed(h);
 }
 
-/* Opening paints every slot from its first byte on, and leaves what lies outside slots. */
-static void opening_paints(void)
+/* Opening fills every slot from its first byte on, and leaves what lies outside slots. */
+static void opening_fills(void)
 {
     poheldu_heap h = opened(1024), before;
     fill(h.heap, h.heap_len);
@@ -732,8 +732,8 @@ static void stray_writes(void)
     closed(h);
 }
 
-/* A served free paints its slot with the pattern that the metadata have; a refused one paints nothing. */
-static void frees_paint(void)
+/* A served free fills its slot with the pattern that the metadata have; a refused one fills nothing. */
+static void frees_fill(void)
 {
     const poheldu_heap h = opened(1024);
     for (size_t size = 1; size <= 512; size *= 2) {
@@ -874,9 +874,9 @@ int main(void)
     counts_believed();
     slots_everywhere();
     no_slots();
-    opening_paints();
+    opening_fills();
     stray_writes();
-    frees_paint();
+    frees_fill();
     seeds_judged();
     seeds_drawn();
     looks_everywhere();
