@@ -60,7 +60,7 @@ static bool open_with(run *r, poheldu_seeds seeds, uint32_t pattern)
 {
     const bool opened = call_open(r->lent, seeds, pattern).number == POHELDU_SERVED;
     if (opened)
-        r->placements = 0;
+        r->allocations = 0;
     r->clean = r->clean || opened;
     return opened;
 }

@@ -54,8 +54,8 @@ static uint32_t any_slot(run *r)
 
 static uint32_t remembered_slot(run *r)
 {
-    const size_t remembered = r->placements < REMEMBERED ? r->placements : REMEMBERED;
-    return remembered == 0 ? any_slot(r) : r->placed[below(&r->input, (uint32_t)remembered)];
+    const size_t remembered = r->allocations < REMEMBERED ? r->allocations : REMEMBERED;
+    return remembered == 0 ? any_slot(r) : r->allocated[below(&r->input, (uint32_t)remembered)];
 }
 
 uint32_t any_offset(run *r)
@@ -193,7 +193,7 @@ static void serve(run *r)
 {
     const poheldu_answer a = call_serve(r->lent, r->request, r->source, r->page);
     if (a.number == POHELDU_SERVED && twin_ours(r->request)[0] == ALLOCATE)
-        r->placed[r->placements++ % REMEMBERED] = a.value;
+        r->allocated[r->allocations++ % REMEMBERED] = a.value;
 }
 
 void serve_any(run *r)

@@ -25,8 +25,8 @@ typedef struct {
     size_t region; /* the length of a class's region */
     lent_heap lent;
     twin *request, *source, *page, *blocks, *output, *list;
-    uint32_t placed[REMEMBERED]; /* offsets that allocations gave, freed ones too */
-    size_t placements;
+    uint32_t allocated[REMEMBERED]; /* offsets that allocations gave, freed ones too */
+    size_t allocations;
     bool clean; /* nobody but a served opening and requests wrote to clear slots */
 } run;
 

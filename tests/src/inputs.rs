@@ -299,7 +299,7 @@ pub fn set_pattern(metadata: &mut [u8], pattern: u32) {
 }
 
 /// A heap that holds the pattern everywhere, in its slots and outside them.
-pub fn painted(shape: Shape, pattern: [u8; 4]) -> Vec<u8> {
+pub fn filled(shape: Shape, pattern: [u8; 4]) -> Vec<u8> {
     pattern.repeat(shape.heap_len() / pattern.len())
 }
 
@@ -605,16 +605,16 @@ pub fn any_length(rng: &mut Random) -> usize {
 }
 
 /// The inputs of a vote: blocks, replicas, block length, output.
-pub struct Ballot {
+pub struct Vote {
     pub blocks: Vec<u8>,
     pub replicas: usize,
     pub block_len: usize,
     pub output: Vec<u8>,
 }
 
-pub fn ballot(rng: &mut Random) -> Ballot {
+pub fn vote(rng: &mut Random) -> Vote {
     if rng.once_in(8) {
-        return huge_ballot(rng);
+        return huge_vote(rng);
     }
     let replicas = match rng.below(6) {
         0 => rng.below(18),
@@ -626,7 +626,7 @@ pub fn ballot(rng: &mut Random) -> Ballot {
         blocks.resize(wrong_length(rng, blocks.len(), block_len), 7);
     }
     let output_len = output_length(rng, block_len);
-    Ballot {
+    Vote {
         blocks,
         replicas,
         block_len,
@@ -694,7 +694,7 @@ fn output_length(rng: &mut Random, block_len: usize) -> usize {
 
 /// Numbers near 2^32, 2^63 and 2^64 beside small buffers; often their product
 /// wraps to the buffer's length.
-fn huge_ballot(rng: &mut Random) -> Ballot {
+fn huge_vote(rng: &mut Random) -> Vote {
     let small = rng.between(1, 16);
     let (replicas, block_len) = match rng.below(6) {
         0 => (rng.pick(&HUGE), small),
@@ -708,7 +708,7 @@ fn huge_ballot(rng: &mut Random) -> Ballot {
     let low = (replicas & 0xFF) * (block_len & 0xFF);
     let len = if product <= 256 { product } else { low % 4_096 };
     let output_len = rng.below(64);
-    Ballot {
+    Vote {
         blocks: vec![rng.byte(); len],
         replicas,
         block_len,

@@ -226,7 +226,7 @@ fn try_open(
     Generator { z, w }.store(metadata);
     set_word(metadata, PATTERN_START, pattern);
     for class in 0..CLASSES {
-        paint(&mut heap[layout.all_slots(class)], pattern_of(metadata));
+        fill(&mut heap[layout.all_slots(class)], pattern_of(metadata));
     }
     Ok(0)
 }
@@ -547,14 +547,14 @@ fn choose_slot(generator: &mut Generator, bitmap: &[u8], slots: usize) -> Option
 
 /// Fills slots that lie side by side. The pattern begins anew at each of them,
 /// since it divides the length of every slot.
-fn paint(slots: &mut [u8], pattern: [u8; 4]) {
+fn fill(slots: &mut [u8], pattern: [u8; 4]) {
     let (fours, _) = slots.as_chunks_mut();
     fours.fill(pattern);
 }
 
 /// Whether a slot holds the pattern throughout. Mostly it does: a loop without
 /// an exit takes less time then.
-fn is_painted(slot: &[u8], pattern: [u8; 4]) -> bool {
+fn is_filled(slot: &[u8], pattern: [u8; 4]) -> bool {
     let (fours, _) = slot.as_chunks();
     let pattern = u32::from_le_bytes(pattern);
     let strays = |bits, &four: &[u8; 4]| bits | (u32::from_le_bytes(four) ^ pattern);
@@ -577,7 +577,7 @@ fn hit_slots(layout: Layout, heap: &[u8], metadata: &[u8]) -> Vec<u32> {
         let bitmap = &metadata[layout.bitmap(class)];
         let slots = heap[layout.all_slots(class)].chunks_exact(1 << slot_shift(class));
         for (index, slot) in slots.enumerate() {
-            if !is_live(bitmap, index) && !is_painted(slot, pattern) {
+            if !is_live(bitmap, index) && !is_filled(slot, pattern) {
                 hit.push(layout.slot_start(Slot { class, index }));
             }
         }
@@ -624,7 +624,7 @@ fn free(layout: Layout, heap: &mut [u8], metadata: &mut [u8], offset: u32) -> Re
     set_live_count(metadata, slot.class, left);
     let size = 1 << slot_shift(slot.class);
     let start = offset as usize;
-    paint(&mut heap[start..start + size], pattern_of(metadata));
+    fill(&mut heap[start..start + size], pattern_of(metadata));
     Ok(size as u32)
 }
 
@@ -773,24 +773,24 @@ mod tests {
     const FOUR: [u8; 4] = [0x11, 0x22, 0x33, 0x44];
 
     #[derive(Clone)]
-    struct Bench {
+    struct Opened {
         heap: Vec<u8>,
         metadata: Vec<u8>,
     }
 
-    impl Bench {
-        fn open(z: u32, w: u32) -> Bench {
+    impl Opened {
+        fn open(z: u32, w: u32) -> Opened {
             let (heap, metadata) = (vec![0xEE; HEAP], vec![0xEE; METADATA]);
-            let mut bench = Bench { heap, metadata };
-            assert_eq!(bench.reopen(z, w, PATTERN), served(0));
-            bench
+            let mut opened = Opened { heap, metadata };
+            assert_eq!(opened.reopen(z, w, PATTERN), served(0));
+            opened
         }
 
-        /// A bench whose w draws leave as it is, which no opening makes.
-        fn frozen() -> Bench {
-            let mut bench = Bench::open(1, 1);
-            set_seeds(&mut bench.metadata, 1, FROZEN_W[0]);
-            bench
+        /// One whose w draws leave as it is, which no opening makes.
+        fn frozen() -> Opened {
+            let mut opened = Opened::open(1, 1);
+            set_seeds(&mut opened.metadata, 1, FROZEN_W[0]);
+            opened
         }
 
         fn reopen(&mut self, z: u32, w: u32, pattern: u32) -> Answer {
@@ -806,11 +806,11 @@ mod tests {
             list
         }
 
-        /// A bench with the object of the first allocation, at 640.
-        fn with_object() -> Bench {
-            let mut bench = Bench::open(1, 1);
-            assert_eq!(bench.run(0, 5, 0, &[]), served(640));
-            bench
+        /// One with the object of the first allocation, at 640.
+        fn with_object() -> Opened {
+            let mut opened = Opened::open(1, 1);
+            assert_eq!(opened.run(0, 5, 0, &[]), served(640));
+            opened
         }
 
         fn run(&mut self, operation: u8, argument: u32, count: u32, source: &[u8]) -> Answer {
@@ -909,13 +909,13 @@ mod tests {
 
     #[test]
     fn metadata_after_the_first_allocation() {
-        let bench = Bench::with_object();
+        let opened = Opened::with_object();
         let mut expected = vec![0; METADATA];
         for (at, byte) in [(0, 0x69), (1, 0x90), (4, 0x50), (5, 0x46), (8, 1), (70, 1)] {
             expected[at] = byte;
         }
         expected[56..60].fill(0xEE);
-        assert_eq!(bench.metadata, expected);
+        assert_eq!(opened.metadata, expected);
     }
 
     #[test]
@@ -927,23 +927,23 @@ mod tests {
 
     #[test]
     fn second_allocation_of_2048_is_at_capacity() {
-        let mut bench = Bench::open(1, 1);
-        assert_eq!(bench.run(0, 2_048, 0, &[]).number, 0);
-        assert_eq!(bench.run(0, 2_048, 0, &[]), refused(7));
+        let mut opened = Opened::open(1, 1);
+        assert_eq!(opened.run(0, 2_048, 0, &[]).number, 0);
+        assert_eq!(opened.run(0, 2_048, 0, &[]), refused(7));
     }
 
     #[test]
     fn copy_of_bytes_is_clipped() {
-        let mut bench = Bench::with_object();
-        assert_eq!(bench.run(3, 643, 0, b"ABCDEFGH"), served(5));
-        assert_eq!(bench.heap[642..649], *b"\xEEABCDE\xEE");
+        let mut opened = Opened::with_object();
+        assert_eq!(opened.run(3, 643, 0, b"ABCDEFGH"), served(5));
+        assert_eq!(opened.heap[642..649], *b"\xEEABCDE\xEE");
     }
 
     #[test]
     fn copy_of_a_string_ends_with_its_zero() {
-        let mut bench = Bench::with_object();
-        assert_eq!(bench.run(4, 640, 0, &[0x41, 0x42, 0, 0x43]), served(3));
-        assert_eq!(bench.heap[639..644], [0xEE, 0x41, 0x42, 0, 0xEE]);
+        let mut opened = Opened::with_object();
+        assert_eq!(opened.run(4, 640, 0, &[0x41, 0x42, 0, 0x43]), served(3));
+        assert_eq!(opened.heap[639..644], [0xEE, 0x41, 0x42, 0, 0xEE]);
     }
 
     #[test]
@@ -959,101 +959,101 @@ mod tests {
             (647, b"Jo", 1, b"\xEE\xEE\xEE\xEE\xEE\xEE\xEE\0\xEE"),
             (648, b"Jo", 0, &[0xEE; 9]),
         ] {
-            let mut bench = Bench::with_object();
-            assert_eq!(bench.run(4, offset, 0, source), served(value));
-            assert_eq!(bench.heap[640..649], *bytes);
+            let mut opened = Opened::with_object();
+            assert_eq!(opened.run(4, offset, 0, source), served(value));
+            assert_eq!(opened.heap[640..649], *bytes);
         }
     }
 
     #[test]
     fn other_copies_are_not_closed() {
         for (operation, count) in [(3, 0), (5, 9)] {
-            let mut bench = Bench::with_object();
-            assert_eq!(bench.run(operation, 640, count, b"Valentina"), served(8));
-            assert_eq!(bench.heap[639..649], *b"\xEEValentin\xEE");
+            let mut opened = Opened::with_object();
+            assert_eq!(opened.run(operation, 640, count, b"Valentina"), served(8));
+            assert_eq!(opened.heap[639..649], *b"\xEEValentin\xEE");
         }
     }
 
     #[test]
     fn padded_copy_writes_zeros() {
-        let mut bench = Bench::with_object();
-        assert_eq!(bench.run(5, 640, 4, &[0x41, 0, 0x43]), served(4));
-        assert_eq!(bench.heap[639..645], [0xEE, 0x41, 0, 0, 0, 0xEE]);
+        let mut opened = Opened::with_object();
+        assert_eq!(opened.run(5, 640, 4, &[0x41, 0, 0x43]), served(4));
+        assert_eq!(opened.heap[639..645], [0xEE, 0x41, 0, 0, 0, 0xEE]);
     }
 
     #[test]
     fn read_is_clipped_at_the_objects_end() {
-        let mut bench = Bench::with_object();
-        assert_eq!(bench.read(640, 5, b"page"), of_heap(640, 5));
-        assert_eq!(bench.read(640, 8, b"page"), of_heap(640, 8));
-        assert_eq!(bench.read(640, 9, b"page"), of_heap(640, 8));
-        assert_eq!(bench.read(643, u32::MAX, b"page"), of_heap(643, 5));
-        assert_eq!(bench.read(647, 1, &[]), of_heap(647, 1));
+        let mut opened = Opened::with_object();
+        assert_eq!(opened.read(640, 5, b"page"), of_heap(640, 5));
+        assert_eq!(opened.read(640, 8, b"page"), of_heap(640, 8));
+        assert_eq!(opened.read(640, 9, b"page"), of_heap(640, 8));
+        assert_eq!(opened.read(643, u32::MAX, b"page"), of_heap(643, 5));
+        assert_eq!(opened.read(647, 1, &[]), of_heap(647, 1));
     }
 
     #[test]
     fn read_of_nothing_over_a_live_object() {
-        let mut bench = Bench::with_object();
-        assert_eq!(bench.read(640, 0, b"page"), of_heap(640, 0));
-        assert_eq!(bench.read(647, 0, &[]), of_heap(647, 0));
+        let mut opened = Opened::with_object();
+        assert_eq!(opened.read(640, 0, b"page"), of_heap(640, 0));
+        assert_eq!(opened.read(647, 0, &[]), of_heap(647, 0));
     }
 
     #[test]
     fn read_where_nothing_is_live_shows_the_page() {
-        let mut bench = Bench::with_object();
+        let mut opened = Opened::with_object();
         for offset in [0, 639, 648, 11 * 4_096, HEAP as u32 - 1] {
-            assert_eq!(bench.read(offset, 0, b"page"), of_page(0, 0));
-            assert_eq!(bench.read(offset, 3, b"page"), of_page(0, 3));
-            assert_eq!(bench.read(offset, 4, b"page"), of_page(0, 4));
-            assert_eq!(bench.read(offset, 5, b"page"), of_page(0, 4));
-            assert_eq!(bench.read(offset, u32::MAX, &[]), of_page(0, 0));
+            assert_eq!(opened.read(offset, 0, b"page"), of_page(0, 0));
+            assert_eq!(opened.read(offset, 3, b"page"), of_page(0, 3));
+            assert_eq!(opened.read(offset, 4, b"page"), of_page(0, 4));
+            assert_eq!(opened.read(offset, 5, b"page"), of_page(0, 4));
+            assert_eq!(opened.read(offset, u32::MAX, &[]), of_page(0, 0));
         }
     }
 
     #[test]
     fn read_of_a_freed_object_shows_the_page() {
-        let mut bench = Bench::with_object();
-        assert_eq!(bench.run(1, 640, 0, &[]), served(8));
-        assert_eq!(bench.read(640, 8, b"page"), of_page(0, 4));
+        let mut opened = Opened::with_object();
+        assert_eq!(opened.run(1, 640, 0, &[]), served(8));
+        assert_eq!(opened.read(640, 8, b"page"), of_page(0, 4));
     }
 
     #[test]
     fn page_may_be_longer_than_any_slot() {
-        let mut bench = Bench::with_object();
-        assert_eq!(bench.read(0, 20_000, &[7; 20_001]), of_page(0, 20_000));
-        assert_eq!(bench.read(640, 20_000, &[7; 20_001]), of_heap(640, 8));
+        let mut opened = Opened::with_object();
+        assert_eq!(opened.read(0, 20_000, &[7; 20_001]), of_page(0, 20_000));
+        assert_eq!(opened.read(640, 20_000, &[7; 20_001]), of_heap(640, 8));
     }
 
     #[test]
     fn read_refuses_as_a_remaining_size_does() {
-        let mut bench = Bench::with_object();
+        let mut opened = Opened::with_object();
         for offset in [HEAP as u32, u32::MAX] {
-            assert_eq!(bench.run(2, offset, 0, &[]), refused(8));
-            assert_eq!(bench.read(offset, 4, b"page"), of_page(8, 0));
+            assert_eq!(opened.run(2, offset, 0, &[]), refused(8));
+            assert_eq!(opened.read(offset, 4, b"page"), of_page(8, 0));
         }
-        bench.metadata.pop();
-        assert_eq!(bench.read(640, 4, b"page"), of_page(3, 0));
-        bench.heap.pop();
-        assert_eq!(bench.read(640, 4, b"page"), of_page(2, 0));
+        opened.metadata.pop();
+        assert_eq!(opened.read(640, 4, b"page"), of_page(3, 0));
+        opened.heap.pop();
+        assert_eq!(opened.read(640, 4, b"page"), of_page(2, 0));
     }
 
     #[test]
     fn operations_and_counts_that_are_malformed() {
-        let mut bench = Bench::with_object();
+        let mut opened = Opened::with_object();
         for (operation, count) in [(7, 0), (7, 8), (255, 0), (4, 1), (3, 1), (2, 1)] {
-            assert_eq!(bench.run(operation, 640, count, &[]), refused(4));
+            assert_eq!(opened.run(operation, 640, count, &[]), refused(4));
         }
         for at in [1, 2, 3, 12, 13, 14, 15] {
             let mut request = request(6, 640, 8);
             request[at] = 1;
-            assert_eq!(bench.serve(&request, &[], b"page"), refused(4));
+            assert_eq!(opened.serve(&request, &[], b"page"), refused(4));
         }
-        assert_eq!(bench.run(6, 640, 8, &[]), served(8));
+        assert_eq!(opened.run(6, 640, 8, &[]), served(8));
     }
 
     #[test]
     fn free_past_the_end_is_out_of_range() {
-        assert_eq!(Bench::open(1, 1).run(1, 49_152, 0, &[]), refused(8));
+        assert_eq!(Opened::open(1, 1).run(1, 49_152, 0, &[]), refused(8));
     }
 
     #[test]
@@ -1088,7 +1088,7 @@ mod tests {
 
     #[test]
     fn eight_lines_of_the_bench_run() {
-        let mut bench = Bench::open(1, 1);
+        let mut opened = Opened::open(1, 1);
         let lines = [
             (0, 5, served(640)),
             (0, 100, served(16_384)),
@@ -1100,16 +1100,16 @@ mod tests {
             (0, 0, served(2_680)),
         ];
         for (operation, argument, expected) in lines {
-            assert_eq!(bench.run(operation, argument, 0, &[]), expected);
+            assert_eq!(opened.run(operation, argument, 0, &[]), expected);
         }
     }
 
     #[test]
     fn sizes_that_no_class_holds() {
-        let mut bench = Bench::open(1, 1);
-        assert_eq!(bench.run(0, 16_384, 0, &[]), refused(6));
-        assert_eq!(bench.run(0, 16_385, 0, &[]), refused(5));
-        assert_eq!(bench.run(0, u32::MAX, 0, &[]), refused(5));
+        let mut opened = Opened::open(1, 1);
+        assert_eq!(opened.run(0, 16_384, 0, &[]), refused(6));
+        assert_eq!(opened.run(0, 16_385, 0, &[]), refused(5));
+        assert_eq!(opened.run(0, u32::MAX, 0, &[]), refused(5));
     }
 
     #[test]
@@ -1123,20 +1123,20 @@ mod tests {
 
     #[test]
     fn counts_follow_allocations_and_frees() {
-        let mut bench = Bench::open(1, 1);
-        let first = bench.run(0, 100, 0, &[]).value;
+        let mut opened = Opened::open(1, 1);
+        let first = opened.run(0, 100, 0, &[]).value;
         for size in [100, 8, 65, 2_048] {
-            assert_eq!(bench.run(0, size, 0, &[]).number, 0);
+            assert_eq!(opened.run(0, size, 0, &[]).number, 0);
         }
-        assert_eq!(bench.counts(), [1, 0, 0, 0, 3, 0, 0, 0, 1, 0, 0, 0]);
-        assert_eq!(bench.run(1, first, 0, &[]), served(128));
-        assert_eq!(bench.counts(), [1, 0, 0, 0, 2, 0, 0, 0, 1, 0, 0, 0]);
+        assert_eq!(opened.counts(), [1, 0, 0, 0, 3, 0, 0, 0, 1, 0, 0, 0]);
+        assert_eq!(opened.run(1, first, 0, &[]), served(128));
+        assert_eq!(opened.counts(), [1, 0, 0, 0, 2, 0, 0, 0, 1, 0, 0, 0]);
         for (operation, argument) in [(1, first), (0, 2_048), (0, 4_096), (2, 0), (3, first)] {
-            bench.run(operation, argument, 0, b"text");
-            assert_eq!(bench.counts(), [1, 0, 0, 0, 2, 0, 0, 0, 1, 0, 0, 0]);
+            opened.run(operation, argument, 0, b"text");
+            assert_eq!(opened.counts(), [1, 0, 0, 0, 2, 0, 0, 0, 1, 0, 0, 0]);
         }
-        assert_eq!(bench.reopen(7, 11, PATTERN), served(0));
-        assert_eq!(bench.counts(), [0; 12]);
+        assert_eq!(opened.reopen(7, 11, PATTERN), served(0));
+        assert_eq!(opened.counts(), [0; 12]);
     }
 
     #[test]
@@ -1145,108 +1145,108 @@ mod tests {
             .into_iter()
             .enumerate()
         {
-            let mut bench = Bench::with_object();
-            bench.set_count(class, half);
-            assert_eq!(bench.run(2, 643, 0, &[]), served(5));
-            assert_eq!(bench.read(643, 9, b"page"), of_heap(643, 5));
+            let mut opened = Opened::with_object();
+            opened.set_count(class, half);
+            assert_eq!(opened.run(2, 643, 0, &[]), served(5));
+            assert_eq!(opened.read(643, 9, b"page"), of_heap(643, 5));
             for count in [half + 1, 1 << 31, (1 << 31) + half, u32::MAX - 1, u32::MAX] {
-                bench.set_count(class, count);
-                assert!((0..=7).all(|operation| bench.refuses(operation, 640, 13)));
-                assert_eq!(bench.serve(&[], &[], &[]), refused(13));
-                assert_eq!(bench.read(640, 9, b"page"), of_page(13, 0));
+                opened.set_count(class, count);
+                assert!((0..=7).all(|operation| opened.refuses(operation, 640, 13)));
+                assert_eq!(opened.serve(&[], &[], &[]), refused(13));
+                assert_eq!(opened.read(640, 9, b"page"), of_page(13, 0));
             }
-            assert_eq!(bench.reopen(1, 1, PATTERN), served(0));
-            assert_eq!(bench.run(0, 5, 0, &[]), served(640));
+            assert_eq!(opened.reopen(1, 1, PATTERN), served(0));
+            assert_eq!(opened.run(0, 5, 0, &[]), served(640));
         }
     }
 
     #[test]
     fn lengths_are_checked_before_counts() {
-        let mut bench = Bench::with_object();
-        bench.set_count(0, 257);
-        let fields = bench.metadata[..BITMAPS].to_vec();
-        bench.metadata.pop();
-        assert_eq!(bench.run(7, 0, 0, &[]), refused(3));
-        assert_eq!(bench.read(640, 4, b"page"), of_page(3, 0));
-        bench.metadata.clear();
-        assert_eq!(bench.run(0, 8, 0, &[]), refused(3));
-        bench.metadata = fields;
-        assert_eq!(bench.run(0, 8, 0, &[]), refused(3));
-        bench.heap.pop();
-        assert_eq!(bench.run(0, 8, 0, &[]), refused(2));
+        let mut opened = Opened::with_object();
+        opened.set_count(0, 257);
+        let fields = opened.metadata[..BITMAPS].to_vec();
+        opened.metadata.pop();
+        assert_eq!(opened.run(7, 0, 0, &[]), refused(3));
+        assert_eq!(opened.read(640, 4, b"page"), of_page(3, 0));
+        opened.metadata.clear();
+        assert_eq!(opened.run(0, 8, 0, &[]), refused(3));
+        opened.metadata = fields;
+        assert_eq!(opened.run(0, 8, 0, &[]), refused(3));
+        opened.heap.pop();
+        assert_eq!(opened.run(0, 8, 0, &[]), refused(2));
     }
 
     #[test]
     fn counts_are_believed() {
-        let mut bench = Bench::open(1, 1);
-        bench.set_count(0, 256);
-        assert!(bench.refuses(0, 8, 7));
-        bench.set_count(0, 255);
-        assert_eq!(bench.run(0, 8, 0, &[]), served(640));
-        assert!(bench.refuses(0, 8, 7));
-        bench.metadata[BITMAPS..BITMAPS + 64].fill(0x0F);
-        bench.set_count(0, 0);
-        assert_eq!(bench.run(0, 8, 0, &[]).number, 0);
-        assert_eq!(live_count(&bench.metadata, 0), 1);
+        let mut opened = Opened::open(1, 1);
+        opened.set_count(0, 256);
+        assert!(opened.refuses(0, 8, 7));
+        opened.set_count(0, 255);
+        assert_eq!(opened.run(0, 8, 0, &[]), served(640));
+        assert!(opened.refuses(0, 8, 7));
+        opened.metadata[BITMAPS..BITMAPS + 64].fill(0x0F);
+        opened.set_count(0, 0);
+        assert_eq!(opened.run(0, 8, 0, &[]).number, 0);
+        assert_eq!(live_count(&opened.metadata, 0), 1);
     }
 
     #[test]
     fn no_clear_slot() {
-        let mut bench = Bench::open(1, 1);
-        bench.metadata[BITMAPS..].fill(0xFF);
+        let mut opened = Opened::open(1, 1);
+        opened.metadata[BITMAPS..].fill(0xFF);
         for size in [8, 16, 512, 1_024, 2_048] {
-            assert!(bench.refuses(0, size, 13));
+            assert!(opened.refuses(0, size, 13));
         }
-        assert!(bench.refuses(0, 16_385, 5));
-        assert!(bench.refuses(0, 4_096, 6));
-        bench.set_count(0, 256);
-        assert!(bench.refuses(0, 8, 7));
+        assert!(opened.refuses(0, 16_385, 5));
+        assert!(opened.refuses(0, 4_096, 6));
+        opened.set_count(0, 256);
+        assert!(opened.refuses(0, 8, 7));
         // One clear slot is found, wherever it lies.
         for slot in [0, 1, 256, 510, 511] {
-            let mut bench = Bench::frozen();
-            bench.metadata[BITMAPS..].fill(0xFF);
-            bench.metadata[BITMAPS + slot / 8] ^= 1 << (slot % 8);
-            assert_eq!(bench.run(0, 8, 0, &[]), served(8 * slot as u32));
-            assert!(bench.refuses(0, 8, 13));
+            let mut opened = Opened::frozen();
+            opened.metadata[BITMAPS..].fill(0xFF);
+            opened.metadata[BITMAPS + slot / 8] ^= 1 << (slot % 8);
+            assert_eq!(opened.run(0, 8, 0, &[]), served(8 * slot as u32));
+            assert!(opened.refuses(0, 8, 13));
         }
     }
 
     #[test]
     fn free_of_an_object_that_no_count_has() {
-        let mut bench = Bench::with_object();
-        bench.set_count(0, 0);
+        let mut opened = Opened::with_object();
+        opened.set_count(0, 0);
         for (offset, number) in [(640, 13), (648, 10), (641, 9), (49_152, 8)] {
-            assert!(bench.refuses(1, offset, number));
+            assert!(opened.refuses(1, offset, number));
         }
-        assert_eq!(bench.run(2, 640, 0, &[]), served(8));
-        bench.set_count(0, 1);
-        assert_eq!(bench.run(1, 640, 0, &[]), served(8));
-        assert_eq!(bench.counts(), [0; 12]);
+        assert_eq!(opened.run(2, 640, 0, &[]), served(8));
+        opened.set_count(0, 1);
+        assert_eq!(opened.run(1, 640, 0, &[]), served(8));
+        assert_eq!(opened.counts(), [0; 12]);
     }
 
     #[test]
     fn class_of_one_slot_has_no_count() {
-        let mut bench = Bench::open(1, 1);
-        bench.metadata[BITMAPS..].fill(0xFF);
-        assert_eq!(bench.run(2, 9 * 4_096, 0, &[]), served(4_096));
-        assert!(bench.refuses(1, 9 * 4_096, 13));
-        assert!(bench.refuses(1, 10 * 4_096, 9));
+        let mut opened = Opened::open(1, 1);
+        opened.metadata[BITMAPS..].fill(0xFF);
+        assert_eq!(opened.run(2, 9 * 4_096, 0, &[]), served(4_096));
+        assert!(opened.refuses(1, 9 * 4_096, 13));
+        assert!(opened.refuses(1, 10 * 4_096, 9));
     }
 
     #[test]
     fn seeds_that_freeze_are_refused() {
-        let mut bench = Bench::with_object();
-        let (heap, metadata) = (bench.heap.clone(), bench.metadata.clone());
+        let mut opened = Opened::with_object();
+        let (heap, metadata) = (opened.heap.clone(), opened.metadata.clone());
         for z in [0].into_iter().chain(FROZEN_Z) {
-            assert_eq!(bench.reopen(z, 1, 7), refused(1));
+            assert_eq!(opened.reopen(z, 1, 7), refused(1));
         }
         for w in [0].into_iter().chain(FROZEN_W) {
-            assert_eq!(bench.reopen(1, w, 7), refused(1));
+            assert_eq!(opened.reopen(1, w, 7), refused(1));
         }
-        assert_eq!(bench.reopen(FROZEN_Z[0], FROZEN_W[0], 7), refused(1));
-        assert_eq!((&bench.heap, &bench.metadata), (&heap, &metadata));
-        bench.metadata.pop();
-        assert_eq!(bench.reopen(FROZEN_Z[0], 1, 7), refused(3));
+        assert_eq!(opened.reopen(FROZEN_Z[0], FROZEN_W[0], 7), refused(1));
+        assert_eq!((&opened.heap, &opened.metadata), (&heap, &metadata));
+        opened.metadata.pop();
+        assert_eq!(opened.reopen(FROZEN_Z[0], 1, 7), refused(3));
     }
 
     #[test]
@@ -1263,7 +1263,7 @@ mod tests {
             (1, FROZEN_W[2] + 1),
             (u32::MAX, u32::MAX),
         ] {
-            Bench::open(z, w);
+            Opened::open(z, w);
         }
     }
 
@@ -1281,33 +1281,33 @@ mod tests {
     #[test]
     fn requests_do_not_judge_seeds() {
         for (z, w) in [(0, 0), (FROZEN_Z[0], FROZEN_W[2]), (0, FROZEN_W[0])] {
-            let mut bench = Bench::with_object();
-            set_seeds(&mut bench.metadata, z, w);
-            assert_eq!(bench.run(0, 8, 0, &[]).number, 0);
-            assert_eq!(bench.run(2, 643, 0, &[]), served(5));
-            assert_eq!(bench.run(1, 640, 0, &[]), served(8));
-            assert_eq!(bench.inspect(), []);
+            let mut opened = Opened::with_object();
+            set_seeds(&mut opened.metadata, z, w);
+            assert_eq!(opened.run(0, 8, 0, &[]).number, 0);
+            assert_eq!(opened.run(2, 643, 0, &[]), served(5));
+            assert_eq!(opened.run(1, 640, 0, &[]), served(8));
+            assert_eq!(opened.inspect(), []);
         }
     }
 
     #[test]
     fn walk_after_32_draws() {
-        let mut bench = Bench::frozen();
+        let mut opened = Opened::frozen();
         for expected in [20_352, 16_384, 16_512] {
-            assert_eq!(bench.run(0, 128, 0, &[]), served(expected));
+            assert_eq!(opened.run(0, 128, 0, &[]), served(expected));
         }
     }
 
     #[test]
-    fn opening_paints_slots_alone() {
+    fn opening_fills_slots_alone() {
         // Regions of 1,024 bytes have slots in classes 0 to 7, of 4,096 in 0 to 9.
         for (region, slots_end) in [(1_024, 8 * 1_024), (4_096, 10 * 4_096)] {
             let mut heap = vec![0x55; 12 * region];
             let mut metadata = vec![0x55; metadata_length(heap.len())];
             let pattern = u32::from_le_bytes(FOUR);
             assert_eq!(open(&mut heap, &mut metadata, 1, 1, pattern), served(0));
-            let painted = |(at, &byte): (usize, &u8)| byte == FOUR[at % 4];
-            assert!(heap[..slots_end].iter().enumerate().all(painted));
+            let filled = |(at, &byte): (usize, &u8)| byte == FOUR[at % 4];
+            assert!(heap[..slots_end].iter().enumerate().all(filled));
             assert!(heap[slots_end..].iter().all(|&byte| byte == 0x55));
             assert_eq!(metadata[56..60], FOUR);
         }
@@ -1315,65 +1315,65 @@ mod tests {
 
     #[test]
     fn refused_opening_changes_nothing() {
-        let mut bench = Bench::with_object();
-        let (heap, metadata) = (bench.heap.clone(), bench.metadata.clone());
-        assert_eq!(bench.reopen(0, 1, 7), refused(1));
-        assert_eq!(bench.reopen(1, 0, 7), refused(1));
-        bench.metadata.pop();
-        assert_eq!(bench.reopen(0, 1, 7), refused(3));
-        bench.heap.pop();
-        assert_eq!(bench.reopen(0, 1, 7), refused(2));
-        assert_eq!(bench.heap, heap[..HEAP - 1]);
-        assert_eq!(bench.metadata, metadata[..METADATA - 1]);
+        let mut opened = Opened::with_object();
+        let (heap, metadata) = (opened.heap.clone(), opened.metadata.clone());
+        assert_eq!(opened.reopen(0, 1, 7), refused(1));
+        assert_eq!(opened.reopen(1, 0, 7), refused(1));
+        opened.metadata.pop();
+        assert_eq!(opened.reopen(0, 1, 7), refused(3));
+        opened.heap.pop();
+        assert_eq!(opened.reopen(0, 1, 7), refused(2));
+        assert_eq!(opened.heap, heap[..HEAP - 1]);
+        assert_eq!(opened.metadata, metadata[..METADATA - 1]);
     }
 
     #[test]
-    fn served_free_paints_its_slot() {
-        let mut bench = Bench::with_object();
-        bench.heap[632..656].copy_from_slice(b"beforeit--object--behind");
-        assert!(bench.refuses(1, 641, 9) && bench.refuses(1, 648, 10));
-        bench.metadata[56..60].copy_from_slice(&FOUR);
-        assert_eq!(bench.run(1, 640, 0, &[]), served(8));
-        assert_eq!(bench.heap[632..640], *b"beforeit");
-        assert_eq!(bench.heap[640..648], [FOUR, FOUR].concat());
-        assert_eq!(bench.heap[648..656], *b"--behind");
-        assert!(bench.refuses(1, 640, 10));
+    fn served_free_fills_its_slot() {
+        let mut opened = Opened::with_object();
+        opened.heap[632..656].copy_from_slice(b"beforeit--object--behind");
+        assert!(opened.refuses(1, 641, 9) && opened.refuses(1, 648, 10));
+        opened.metadata[56..60].copy_from_slice(&FOUR);
+        assert_eq!(opened.run(1, 640, 0, &[]), served(8));
+        assert_eq!(opened.heap[632..640], *b"beforeit");
+        assert_eq!(opened.heap[640..648], [FOUR, FOUR].concat());
+        assert_eq!(opened.heap[648..656], *b"--behind");
+        assert!(opened.refuses(1, 640, 10));
     }
 
     #[test]
     fn allocation_leaves_the_heap() {
-        let mut bench = Bench::open(1, 1);
-        bench.heap[640..648].copy_from_slice(b"strayed!");
-        let heap = bench.heap.clone();
-        assert_eq!(bench.run(0, 5, 0, &[]), served(640));
-        assert_eq!(bench.heap, heap);
+        let mut opened = Opened::open(1, 1);
+        opened.heap[640..648].copy_from_slice(b"strayed!");
+        let heap = opened.heap.clone();
+        assert_eq!(opened.run(0, 5, 0, &[]), served(640));
+        assert_eq!(opened.heap, heap);
     }
 
     #[test]
     fn inspection_lists_what_others_wrote_to() {
-        let mut bench = Bench::with_object();
-        assert_eq!(bench.run(3, 640, 0, b"Bertrand"), served(8));
-        assert_eq!(bench.inspect(), []);
-        bench.heap[648] = 0; // past the object
-        assert_eq!(bench.inspect(), [648]);
-        assert_eq!(bench.run(1, 640, 0, &[]), served(8));
-        assert_eq!(bench.inspect(), [648]);
-        bench.heap[647] = 0; // after the free
-        assert_eq!(bench.inspect(), [640, 648]);
-        assert_eq!(bench.reopen(1, 1, 0), served(0));
-        assert_eq!(bench.inspect(), []);
+        let mut opened = Opened::with_object();
+        assert_eq!(opened.run(3, 640, 0, b"Bertrand"), served(8));
+        assert_eq!(opened.inspect(), []);
+        opened.heap[648] = 0; // past the object
+        assert_eq!(opened.inspect(), [648]);
+        assert_eq!(opened.run(1, 640, 0, &[]), served(8));
+        assert_eq!(opened.inspect(), [648]);
+        opened.heap[647] = 0; // after the free
+        assert_eq!(opened.inspect(), [640, 648]);
+        assert_eq!(opened.reopen(1, 1, 0), served(0));
+        assert_eq!(opened.inspect(), []);
     }
 
     #[test]
     fn inspection_finds_each_byte_of_each_slot() {
-        let fresh = Bench::open(1, 1);
+        let fresh = Opened::open(1, 1);
         for class in 0..10 {
             let (start, size) = (4_096 * class, 8 << class);
             for slot in [0, 4_096 / size - 1].map(|index| start + index * size) {
                 for at in [0, 1, size / 2, size - 2, size - 1] {
-                    let mut bench = fresh.clone();
-                    bench.heap[slot + at] ^= 1;
-                    assert_eq!(bench.inspect(), [slot as u32]);
+                    let mut opened = fresh.clone();
+                    opened.heap[slot + at] ^= 1;
+                    assert_eq!(opened.inspect(), [slot as u32]);
                 }
             }
         }
@@ -1381,33 +1381,33 @@ mod tests {
 
     #[test]
     fn pattern_out_of_step_is_listed() {
-        let mut bench = Bench::open(1, 1);
-        assert_eq!(bench.reopen(1, 1, u32::from_le_bytes(FOUR)), served(0));
-        bench.heap[16..24].copy_from_slice(&[0x22, 0x33, 0x44, 0x11, 0x22, 0x33, 0x44, 0x11]);
-        assert_eq!(bench.inspect(), [16]);
+        let mut opened = Opened::open(1, 1);
+        assert_eq!(opened.reopen(1, 1, u32::from_le_bytes(FOUR)), served(0));
+        opened.heap[16..24].copy_from_slice(&[0x22, 0x33, 0x44, 0x11, 0x22, 0x33, 0x44, 0x11]);
+        assert_eq!(opened.inspect(), [16]);
     }
 
     #[test]
     fn inspection_looks_at_clear_slots_alone() {
-        let mut bench = Bench::with_object();
-        bench.heap[640..648].fill(1);
-        bench.heap[10 * 4_096..].fill(1); // regions without slots
-        assert_eq!(bench.inspect(), []);
-        bench.heap.fill(1);
-        let listed = bench.inspect();
+        let mut opened = Opened::with_object();
+        opened.heap[640..648].fill(1);
+        opened.heap[10 * 4_096..].fill(1); // regions without slots
+        assert_eq!(opened.inspect(), []);
+        opened.heap.fill(1);
+        let listed = opened.inspect();
         assert_eq!(listed.len(), 1_022);
         assert!(listed.is_sorted() && !listed.contains(&640));
         // A class of eight slots and less has bits beyond them, which are none.
-        bench.metadata[BITMAPS..].fill(0xFF);
-        assert_eq!(bench.inspect(), []);
-        *bench.metadata.last_mut().expect("bytes") = 0xFE;
-        assert_eq!(bench.inspect(), [9 * 4_096]);
+        opened.metadata[BITMAPS..].fill(0xFF);
+        assert_eq!(opened.inspect(), []);
+        *opened.metadata.last_mut().expect("bytes") = 0xFE;
+        assert_eq!(opened.inspect(), [9 * 4_096]);
     }
 
     #[test]
     fn lists_of_every_length() {
-        let mut bench = Bench::open(1, 1);
-        bench.heap[8..24].fill(1);
+        let mut opened = Opened::open(1, 1);
+        opened.heap[8..24].fill(1);
         let mut list = [7; 4];
         for (len, answer, after) in [
             (0, refused(14), [7; 4]),
@@ -1416,33 +1416,33 @@ mod tests {
             (4, served(2), [8, 16, 7, 7]),
         ] {
             let front = &mut list[..len];
-            assert_eq!(inspect(&bench.heap, &bench.metadata, front), answer);
+            assert_eq!(inspect(&opened.heap, &opened.metadata, front), answer);
             assert_eq!(list, after);
         }
-        bench.heap[8..24].fill(0xEE);
-        assert_eq!(inspect(&bench.heap, &bench.metadata, &mut []), served(0));
+        opened.heap[8..24].fill(0xEE);
+        assert_eq!(inspect(&opened.heap, &opened.metadata, &mut []), served(0));
     }
 
     #[test]
     fn list_is_judged_last() {
-        let mut bench = Bench::open(1, 1);
-        bench.heap.fill(1);
-        let judged = |bench: &Bench| inspect(&bench.heap, &bench.metadata, &mut [7; 9]);
-        assert_eq!(judged(&bench), refused(14));
-        bench.set_count(11, 1);
-        assert_eq!(judged(&bench), refused(13));
-        bench.metadata.pop();
-        assert_eq!(judged(&bench), refused(3));
-        bench.heap.pop();
-        assert_eq!(judged(&bench), refused(2));
+        let mut opened = Opened::open(1, 1);
+        opened.heap.fill(1);
+        let judged = |opened: &Opened| inspect(&opened.heap, &opened.metadata, &mut [7; 9]);
+        assert_eq!(judged(&opened), refused(14));
+        opened.set_count(11, 1);
+        assert_eq!(judged(&opened), refused(13));
+        opened.metadata.pop();
+        assert_eq!(judged(&opened), refused(3));
+        opened.heap.pop();
+        assert_eq!(judged(&opened), refused(2));
     }
 
     #[test]
     fn counts_of_nothing_are_inspected() {
-        let mut bench = Bench::open(1, 1);
-        bench.metadata[BITMAPS..].fill(0xFF);
-        assert!(bench.refuses(0, 8, 13) && bench.refuses(1, 0, 13));
-        assert_eq!(bench.inspect(), []);
+        let mut opened = Opened::open(1, 1);
+        opened.metadata[BITMAPS..].fill(0xFF);
+        assert!(opened.refuses(0, 8, 13) && opened.refuses(1, 0, 13));
+        assert_eq!(opened.inspect(), []);
     }
 
     #[test]

@@ -1,1 +1,2 @@
+-- Laws of texts that are compared.
 pub mod Equal

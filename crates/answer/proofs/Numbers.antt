@@ -2,7 +2,10 @@
 use mathlib.Core.Path.{_≡_}
 use native.Mathlib.Omega.{arith}
 use Rattle.answer.specs.declared.Refusal.{Refusal}
-use Rattle.answer.specs.declared.Refusal.the-variants.{UnusableSeed, HeapLength, MetadataLength, MalformedRequest, UnsupportedSize, ClassTooSmall, ClassAtCapacity, OutOfRange, NotASlotStart, NotAllocated, InvalidVote, NoAgreement, CorruptMetadata, ListTooShort}
+use Rattle.answer.specs.declared.Refusal.the-variants.{UnusableSeed, HeapLength, MetadataLength}
+use Rattle.answer.specs.declared.Refusal.the-variants.{MalformedRequest, UnsupportedSize, ClassTooSmall}
+use Rattle.answer.specs.declared.Refusal.the-variants.{ClassAtCapacity, OutOfRange, NotASlotStart, NotAllocated}
+use Rattle.answer.specs.declared.Refusal.the-variants.{InvalidVote, NoAgreement, CorruptMetadata, ListTooShort}
 use Rattle.answer.specs.Reply.{numberOf}
 
 -- a refusal's number is never that of a served request

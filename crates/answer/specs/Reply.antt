@@ -1,7 +1,10 @@
 -- The table of refusals (the paper's slips), and what an answer says in numbers.
 use Prim.Native.Nat.{ℕ}
 use Rattle.answer.specs.declared.Refusal.{Refusal}
-use Rattle.answer.specs.declared.Refusal.the-variants.{UnusableSeed, HeapLength, MetadataLength, MalformedRequest, UnsupportedSize, ClassTooSmall, ClassAtCapacity, OutOfRange, NotASlotStart, NotAllocated, InvalidVote, NoAgreement, CorruptMetadata, ListTooShort}
+use Rattle.answer.specs.declared.Refusal.the-variants.{UnusableSeed, HeapLength, MetadataLength}
+use Rattle.answer.specs.declared.Refusal.the-variants.{MalformedRequest, UnsupportedSize, ClassTooSmall}
+use Rattle.answer.specs.declared.Refusal.the-variants.{ClassAtCapacity, OutOfRange, NotASlotStart, NotAllocated}
+use Rattle.answer.specs.declared.Refusal.the-variants.{InvalidVote, NoAgreement, CorruptMetadata, ListTooShort}
 use Rattle.answer.specs.declared.Answer.{Answer}
 use Rattle.answer.specs.declared.Answer.the-variants.{Served, Refused}
 

@@ -1,1 +1,2 @@
+-- Laws of the program's status.
 pub mod Statuses

@@ -1,3 +1,4 @@
+-- Laws of lines read from an input that comes in pieces, and the theorems that no cut changes what is read.
 pub mod Examples
 pub mod Room
 pub mod Splitting

@@ -1,1 +1,2 @@
+-- Laws of a number's digits.
 pub mod Spelling

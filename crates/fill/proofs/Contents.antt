@@ -111,7 +111,8 @@ module _ (s : List ℕ) (count : ℕ) where
         go (yes h) =
             let whole : text ≡ k = omega arith in
             let split : room ≡ length (take k s) + (room - k) = rw size (omega arith) in
-            rw whole (ap (λ (n : ℕ). take n padded) split ∙ take-append-add (take k s) (replicate count 0) (room - k) ∙ rw (take-zeros (room - k) count (omega arith)))
+            rw whole (ap (λ (n : ℕ). take n padded) split
+            ∙ take-append-add (take k s) (replicate count 0) (room - k) ∙ rw (take-zeros (room - k) count (omega arith)))
         go (no h) =
             let none : text ≡ room = omega arith in
             rw (none, take-append-le room (take k s) (replicate count 0) (rw size (omega arith)), take-take room k s (omega arith), sub-self, append-nil)
@@ -129,7 +130,8 @@ module _ (s : List ℕ) (count : ℕ) where
       let middle : mid ≡ take text s ++ drop text t = copied ∙ rw (sub-zero, take-all (length t) (take text s) (rw size (omega arith)), size) in
       let before : take text mid ≡ take text s = rw middle (take-at (take text s) (drop text t) text size) in
       let after : drop text mid ≡ drop text t = rw middle (drop-at (take text s) (drop text t) text size) in
-      let left : length (take (room - text) (drop text t)) ≡ room - text = length-take-le (room - text) (drop text t) (rw length-drop (sub-le text (omega arith))) in
+      let left : length (take (room - text) (drop text t)) ≡ room - text =
+      length-take-le (room - text) (drop text t) (rw length-drop (sub-le text (omega arith))) in
       let fill : zeros ≡ replicate (room - text) 0 = cleared ∙ rw (after, left) in
       let end : text + (room - text) ≡ room = omega arith in
       let front : writes (Padded count) s (length t) ≡ take text s ++ replicate (room - text) 0 = in-room (length t) roomy ∙ padded-front (omega arith) cut in

@@ -68,7 +68,8 @@ module _ (s : List ℕ) (at : ℕ) (none : at ≤ indexOf 0 s) where
   found-from to h e = e ∙ index-drop 0 (take to s) at (rw index-take (omega arith)) ∙ index-take 0 s to
 
   -- whether a block from there on has the element
-  module _ (n : ℕ) (fits : at + n ≤ length s) {t : Bool} (seen : t ≡ ltb (indexOf 0 (take (at + n - at) (drop at s))) (length (take (at + n - at) (drop at s)))) where
+  module _ (n : ℕ) (fits : at + n ≤ length s) {t : Bool}
+      (seen : t ≡ ltb (indexOf 0 (take (at + n - at) (drop at s))) (length (take (at + n - at) (drop at s)))) where
     abbrev rest : ℕ
     rest = indexOf 0 (drop at s)
 

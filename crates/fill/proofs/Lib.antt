@@ -1,2 +1,3 @@
+-- Laws of what copies write into bytes that they are lent.
 pub mod Index
 pub mod Contents

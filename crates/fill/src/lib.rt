@@ -61,8 +61,8 @@ fn skip(source: &[u8], from: usize, count: usize, block: usize) -> usize
     at
 }
 
-// The index of the first zero byte of the first `count`; `count` where there is none. A block's length is known, so that
-// the compiler unrolls the search for its byte.
+// The index of the first zero byte of the first `count`; `count` where there is none. A block's length is known: the
+// compiler unrolls the search for its byte.
 fn find_zero(source: &[u8], count: usize) -> usize
     requires { ⌜ count ≤ length (now source) ⌝ }
     ensures { λ r. ⌜ r ≡ min count (indexOf 0 (now (source .entry))) ⌝ }

@@ -1,3 +1,4 @@
+-- What each way through a request comes to, as the code meets it.
 pub mod Part
 pub mod Allocating
 pub mod Live

@@ -29,7 +29,9 @@ module _ (test : ℕ → Bool) (n : ℕ) (list₀ : List ℕ) where
     pub wrote : list ≡ paste list₀ 0 all (min found (length list₀))
 
   pub listing-none : Listing list₀ 0 0
-  listing-none = record { few = omega arith; ahead = rw (sub-zero n); wrote = let none : min 0 (length list₀) ≡ 0 = omega arith in rw none (paste-zero list₀ 0 all) }
+  listing-none =
+      let none : min 0 (length list₀) ≡ 0 = omega arith in
+      record { few = omega arith; ahead = rw (sub-zero n); wrote = rw none (paste-zero list₀ 0 all) }
 
   module _ {list : List ℕ} {found at : ℕ} (so : Listing list found at) where
     pub listing-length : length list ≡ length list₀
@@ -41,7 +43,8 @@ module _ (test : ℕ → Bool) (n : ℕ) (list₀ : List ℕ) where
         let left : length all - found ≡ 0 = sym (length-drop found all) ∙ ap length (so .ahead ∙ none) in
         let is : found ≡ length all = omega (arith, so .few) in
         let size : length (take (length list₀) all) ≡ min found (length list₀) = length-take (length list₀) all ∙ omega (arith, is) in
-        let front : take (min found (length list₀)) all ≡ take (length list₀) all = take-min (length list₀) (length all) all {n = min found (length list₀)} (omega (arith, is)) ∙ ap (take (length list₀)) (take-length all) in
+        let front : take (min found (length list₀)) all ≡ take (length list₀) all =
+        take-min (length list₀) (length all) all {n = min found (length list₀)} (omega (arith, is)) ∙ ap (take (length list₀)) (take-length all) in
         (is, so .wrote ∙ rw (front, size, zero-add))
 
     pub listing-end : n ≤ at → (found ≡ length all) × (list ≡ overwrite list₀ 0 (take (length list₀) all))

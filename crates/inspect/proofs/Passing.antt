@@ -3,7 +3,8 @@ use Prim.Native.Nat.{ℕ, suc, _+_, _-_, _*_, _/_, _%_, _<_, _≤_}
 use mathlib.Core.Path.{_≡_, refl, sym, ap, _∙_}
 use mathlib.Core.Bool.{Bool, true, false, not, and-false, and-true}
 use mathlib.Core.List.{List}
-use native.Mathlib.Nat.{le-of-eq, zero-mul, add-mul, suc-mul, mul-le-mul-right, mod-lt, div-add-mod', dvd-of-mod-eq-zero, dvd-mul-left-of-dvd, mod-eq-zero-of-dvd}
+use native.Mathlib.Nat.{le-of-eq, zero-mul, add-mul, suc-mul, mul-le-mul-right, mod-lt, div-add-mod'}
+use native.Mathlib.Nat.{dvd-of-mod-eq-zero, dvd-mul-left-of-dvd, mod-eq-zero-of-dvd}
 use native.Mathlib.Decide.{decLt}
 use native.Mathlib.Omega.{arith}
 use lib.ListN.{length, take, drop, length-drop}

@@ -167,7 +167,8 @@ pub slots-lie : (G : Layout) (h : List ℕ) {at class region count size : ℕ} �
     → SideBySide (lentBytes h class region count size) count size
 slots-lie G h {class = class} {region = region} {count = count} {size = size} near s =
     record {
-      all = rw (add-sub-cancel-left (class * region) (count * size)) (length-take-le (count * size) (drop (class * region) h) (rw length-drop (omega (arith, near .all))));
+      all = rw (add-sub-cancel-left (class * region) (count * size))
+          (length-take-le (count * size) (drop (class * region) h) (rw length-drop (omega (arith, near .all))));
       some = near .some;
       whole = rw s (slot-size-whole G class);
     }

@@ -1,1 +1,2 @@
+-- Laws of the look at the live counts.
 pub mod Admitting

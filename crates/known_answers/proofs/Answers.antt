@@ -25,9 +25,10 @@ use Rattle.alike.proofs.Equal.{alike-equal}
 use Rattle.known_answers.specs.Calls.{Row, row, numbers, opened, clear, answerTo, after, placeOf, showing, voting}
 use Rattle.known_answers.specs.Calls.{inspecting}
 use Rattle.known_answers.specs.Table.{table, start, oneObject, copying, bytesVoted}
-use Rattle.known_answers.specs.Further.{further, lastSet, firstSet, atCapacity, afterSeven, letters, kept, nearHalf, classFive, onlySlotSet, counting, shownThere}
-use Rattle.known_answers.specs.Canaries.{canaries, openedWith, newly, part, overrun, freeing, newHits}
-use Rattle.known_answers.specs.Canaries.{fewClear, twoHit}
+use Rattle.known_answers.specs.Further.{further, lastSet, firstSet, atCapacity, afterSeven, letters, kept}
+use Rattle.known_answers.specs.Further.{nearHalf, classFive, onlySlotSet, counting, shownWith, shownThere, eachAbove}
+use Rattle.known_answers.specs.Canaries.{canaries, openedWith, newly, overUneven, part, overrun, freeing, newHits}
+use Rattle.known_answers.specs.Canaries.{noneClear, fewClear, laterClear, changed, twoHit}
 
 -- the two sides of each row are the same numbers
 allAlike : List Row → Bool
@@ -59,15 +60,16 @@ unfolding allAlike table start answerTo after oneObject numbers copying bytesVot
 computes = refl
 
 further-computes : allAlike further ≡ true
-unfolding allAlike further lastSet firstSet atCapacity afterSeven letters kept nearHalf classFive onlySlotSet counting shownThere opened clear answerTo after
-    start oneObject copying placeOf showing numbers voting row indexOf indexAfter first isOneOf slotSize bitmapAt putByte nextClear parse judge admit
-    probe allocate free space remaining copy read serving opening alike tabulate digits leader count decide
+unfolding allAlike further lastSet firstSet atCapacity afterSeven letters kept nearHalf classFive onlySlotSet counting
+    shownWith shownThere eachAbove opened clear answerTo after start oneObject copying placeOf showing numbers voting row
+    indexOf indexAfter first isOneOf slotSize bitmapAt putByte nextClear parse judge admit probe allocate free space
+    remaining copy read serving opening alike tabulate digits leader count decide
 further-computes = refl
 
 canaries-compute : allAlike canaries ≡ true
-unfolding allAlike canaries openedWith newly part overrun freeing newHits fewClear twoHit inspecting numbers row first
-    those isOneOf slotSize bitmapAt putByte parse judge admit probe allocate free serving opening inspection alike
-    tabulate
+unfolding allAlike canaries openedWith newly overUneven part overrun freeing newHits noneClear fewClear laterClear changed
+    twoHit inspecting numbers row first those isOneOf slotSize bitmapAt putByte parse judge admit probe allocate free
+    serving opening inspection alike tabulate
 canaries-compute = refl
 
 -- each of the twelve worked examples holds of the definitions

@@ -1,1 +1,2 @@
+-- The theorems that the tables of worked examples hold.
 pub mod Answers

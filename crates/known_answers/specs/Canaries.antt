@@ -1,9 +1,10 @@
 -- Worked examples of canaries: what openings and frees fill with them, and what inspections find. What is right was
 -- worked out from the paper, apart from the definitions.
-use Prim.Native.Nat.{ℕ}
+use Prim.Native.Nat.{ℕ, _%_}
 use mathlib.Core.List.{List, [], _∷_, _++_}
 use lib.ListN.{take, drop, set, replicate}
 use Rattle.search.specs.Those.{those}
+use Rattle.search.specs.Tabulate.{tabulate}
 use Rattle.writing.specs.Overwrite.{overwrite}
 use Rattle.geometry.specs.Layout.{layoutOf, countsAt, canaryAt, header}
 use Rattle.rules.specs.Open.{setup}
@@ -23,6 +24,12 @@ openedWith z =
 
 unfoldable pub newly : State
 newly = openedWith 1
+
+-- a heap in which no byte is like those beside it, after an opening with 5, 6, 7 and 8 as the pattern
+unfoldable pub overUneven : List ℕ
+overUneven =
+    let c : Call = opening (heapOf 1_024) (replicate 94 0xff) (setup 1 1 0x08070605) in
+    c .heap (tabulate (λ x. x % 251) 0 (heapOf 1_024))
 
 -- n bytes of a heap
 unfoldable pub part : ℕ → ℕ → List ℕ → List ℕ
@@ -49,13 +56,26 @@ freeing m offset =
 unfoldable pub newHits : List ℕ
 newHits = those (isHit (layoutOf (heapOf 1_024)) (newly .metadata) (newly .heap)) 0 6_144
 
--- every slot is live but the first eight of class 0 (byte 60) and slot 1 of class 5 (byte 91): less to compute
-unfoldable pub fewClear : List ℕ
-fewClear = set (set (take header (newly .metadata) ++ replicate 34 0xff) 60 0x00) 91 0xfd
+-- every slot is live
+unfoldable pub noneClear : List ℕ
+noneClear = take header (newly .metadata) ++ replicate 34 0xff
 
--- a byte is changed in two of these: the first of one, and another's fourth
+-- but the first eight of class 0 (byte 60) and slot 1 of class 5 (byte 91): less to compute
+unfoldable pub fewClear : List ℕ
+fewClear = set (set noneClear 60 0x00) 91 0xfd
+
+-- but slots 96 to 103 of class 0 (byte 72) and the only one of class 7 (byte 93)
+unfoldable pub laterClear : List ℕ
+laterClear = set (set noneClear 72 0x00) 93 0xfe
+
+-- the newly opened heap with the bytes at some offsets changed
+unfoldable pub changed : List ℕ → List ℕ
+changed [] = newly .heap
+changed (offset ∷ offsets) = set (changed offsets) offset 0
+
+-- in two of the slots that fewClear has: the first byte of one, and another's fourth
 unfoldable pub twoHit : List ℕ
-twoHit = set (set (newly .heap) 5_376 0) 43 0
+twoHit = changed (43 ∷ 5_376 ∷ [])
 
 -- ---- the table
 
@@ -67,6 +87,9 @@ canaries =
     ∷ row (part 7_168 4 (newly .heap)) (1 ∷ 2 ∷ 3 ∷ 4 ∷ [])
     ∷ row (part 8_188 6 (newly .heap)) (1 ∷ 2 ∷ 3 ∷ 4 ∷ 0xaa ∷ 0xaa ∷ [])
     ∷ row (part 12_287 1 (newly .heap)) (0xaa ∷ [])
+    -- what lies in no slot is kept, each byte as it was: a region without slots at its start, and the heap's end
+    ∷ row (part 8_190 6 overUneven) (7 ∷ 8 ∷ 160 ∷ 161 ∷ 162 ∷ 163 ∷ [])
+    ∷ row (part 12_284 4 overUneven) (236 ∷ 237 ∷ 238 ∷ 239 ∷ [])
     -- the pattern is kept behind the counts
     ∷ row (newly .metadata) (1 ∷ 0 ∷ 0 ∷ 0 ∷ 1 ∷ replicate 51 0 ++ (1 ∷ 2 ∷ 3 ∷ 4 ∷ replicate 34 0))
     -- a refused opening leaves everything as it was
@@ -82,12 +105,16 @@ canaries =
     -- nothing is hit where the heap was newly opened
     ∷ row newHits []
     -- one byte changed, the last of a clear slot; the list keeps its later entries
-    ∷ row (inspecting (set (newly .heap) 5_631 0) fewClear (7 ∷ 8 ∷ [])) (0 ∷ 1 ∷ 5_376 ∷ 8 ∷ [])
+    ∷ row (inspecting (changed (5_631 ∷ [])) fewClear (7 ∷ 8 ∷ [])) (0 ∷ 1 ∷ 5_376 ∷ 8 ∷ [])
     -- a byte changed in a live slot, and one in no slot
-    ∷ row (inspecting (set (set (newly .heap) 64 0) 8_192 0) fewClear (7 ∷ 8 ∷ [])) (0 ∷ 0 ∷ 7 ∷ 8 ∷ [])
+    ∷ row (inspecting (changed (64 ∷ 8_192 ∷ [])) fewClear (7 ∷ 8 ∷ [])) (0 ∷ 0 ∷ 7 ∷ 8 ∷ [])
     -- slots hit in two classes, with a list that is just long enough, and with one that is an entry too short
     ∷ row (inspecting twoHit fewClear (7 ∷ 8 ∷ [])) (0 ∷ 2 ∷ 40 ∷ 5_376 ∷ [])
     ∷ row (inspecting twoHit fewClear (7 ∷ [])) (14 ∷ 0 ∷ 7 ∷ [])
+    -- a byte changed in each of nine slots: of slot 96 of class 0 the first, of the next the second, .., of slot 103
+    -- the eighth, and of class 7's only slot the 300th
+    ∷ row (inspecting (changed (768 ∷ 777 ∷ 786 ∷ 795 ∷ 804 ∷ 813 ∷ 822 ∷ 831 ∷ 7_467 ∷ [])) laterClear (replicate 9 7))
+    (0 ∷ 9 ∷ 768 ∷ 776 ∷ 784 ∷ 792 ∷ 800 ∷ 808 ∷ 816 ∷ 824 ∷ 7_168 ∷ [])
     -- refused before that as requests are: 65 of 128 counted in class 0, and a heap and metadata a byte short
     ∷ row (inspecting twoHit (set fewClear countsAt 65) (7 ∷ [])) (13 ∷ 0 ∷ 7 ∷ [])
     ∷ row (inspecting (drop 1 twoHit) fewClear (7 ∷ [])) (2 ∷ 0 ∷ 7 ∷ [])

@@ -1,10 +1,14 @@
 -- Further worked examples: limits, edges, and metadata that no opening made. What is right was worked out from the
 -- paper, apart from the definitions.
-use Prim.Native.Nat.{ℕ, _+_, _*_}
+use Prim.Native.Nat.{ℕ, _+_, _*_, _/_, _^_}
 use mathlib.Core.List.{List, [], _∷_, _++_}
 use lib.ListN.{take, drop, set, replicate}
+use Rattle.search.specs.Tabulate.{tabulate}
+use Rattle.words.specs.Word.{putWord}
 use Rattle.geometry.specs.Layout.{layoutOf, header, classOf}
 use Rattle.request.specs.Parse.{requestBytes}
+use Rattle.rules.specs.Serve.{lent}
+use Rattle.rules.specs.Call.{call}
 use Rattle.known_answers.specs.Calls.{Row, row, heapOf, opened, clear, allocate, free, remaining, copyBytes}
 use Rattle.known_answers.specs.Calls.{copyString, copyPadded, read, answerTo, after, showing, voting}
 use Rattle.known_answers.specs.Table.{copying}
@@ -54,11 +58,22 @@ onlySlotSet = set (clear 1_024 1 1) 93 0x01
 unfoldable pub counting : ℕ → ℕ → List ℕ
 counting at byte = set (clear 1_024 1 1) at byte
 
--- the slot of class 7 ends with 1, 2, 3 and 4; what is shown with a page of three bytes
-unfoldable pub shownThere : List ℕ → List ℕ → List ℕ
-shownThere m r =
+-- the slot of class 7 ends with 1, 2, 3 and 4; what is shown with a page, and with one of three bytes
+unfoldable pub shownWith : List ℕ → List ℕ → List ℕ → List ℕ
+shownWith page m r =
     let heap : List ℕ = replicate 8_188 0x11 ++ (1 ∷ 2 ∷ 3 ∷ 4 ∷ replicate 4_096 0x22) in
-    showing heap (0x70 ∷ 0x71 ∷ 0x72 ∷ []) 1_024 m r
+    showing heap page 1_024 m r
+
+unfoldable pub shownThere : List ℕ → List ℕ → List ℕ
+shownThere = shownWith (0x70 ∷ 0x71 ∷ 0x72 ∷ [])
+
+-- ---- regions of any length R: class c has R / (8 * 2 ^ c) slots, and its count is the word at 8 + 4 * c
+
+-- one class counts so many more live objects than half of its slots; the numbers of the answers, for each class
+unfoldable pub eachAbove : ℕ → ℕ → List ℕ
+eachAbove R more =
+    let m : ℕ → List ℕ = λ c. putWord (clear R 1 1) (8 + 4 * c) (R / (16 * 2 ^ c) + more) in
+    tabulate (λ c. call (heapOf R) (m c) (remaining 0) (lent []) .answer .number) 0 12
 
 -- ---- the table
 
@@ -79,22 +94,28 @@ further =
     ∷ row (drop 8 (after 1_024 (classFive 0xf1 1) (allocate 256))) (drop 8 (classFive 0xf9 2))
     ∷ row (answerTo 1_024 (classFive 0xf1 1) (free 5_120)) (0 ∷ 256 ∷ [])
     ∷ row (after 1_024 (classFive 0xf1 1) (free 5_120)) (classFive 0xf0 0)
-    -- counts are believed: with 64 of 128 slots set and none counted one is taken, and with none set and 64 counted none
+    -- counts are believed: with 64 of 128 slots set and none counted one is taken, with none set and 64 counted none
     ∷ row (answerTo 1_024 (nearHalf 0xff 0) (allocate 0)) (0 ∷ 640 ∷ [])
     ∷ row (answerTo 1_024 (counting 8 64) (allocate 0)) (7 ∷ 0 ∷ [])
-    -- refused as corrupt, before the request is read: 65 of 128 counted, one in a class of one slot and in one of none, and
-    -- 2^31, of which twice is 0 in 32 bits; half is not refused
+    -- refused as corrupt, before the request is read: 65 of 128 counted, one in a class of one slot and in one of none,
+    -- and 2^31, of which twice is 0 in 32 bits; half is not refused
     ∷ row (answerTo 1_024 (counting 8 65) (requestBytes 7 0 0)) (13 ∷ 0 ∷ [])
     ∷ row (after 1_024 (counting 8 65) (free 0)) (counting 8 65)
     ∷ row (answerTo 1_024 (counting 36 1) (remaining 0)) (13 ∷ 0 ∷ [])
     ∷ row (answerTo 1_024 (counting 52 1) (copyBytes 12_288)) (13 ∷ 0 ∷ [])
     ∷ row (answerTo 1_024 (counting 11 0x80) (allocate 16_385)) (13 ∷ 0 ∷ [])
     ∷ row (answerTo 1_024 (counting 8 64) (remaining 0)) (0 ∷ 0 ∷ [])
+    -- the same of every class: one above half, and half, where each has two slots or more, and where some have one or
+    -- none
+    ∷ row (eachAbove 32_768 1) (replicate 12 13)
+    ∷ row (eachAbove 32_768 0) (replicate 12 0)
+    ∷ row (eachAbove 1_024 1) (replicate 12 13)
+    ∷ row (eachAbove 1_024 0) (replicate 12 0)
     -- but after the lengths
     ∷ row (answerTo 1_024 (drop 1 (counting 8 65)) (free 0)) (3 ∷ 0 ∷ [])
     ∷ row (answerTo 1_536 (counting 8 65) (free 0)) (2 ∷ 0 ∷ [])
-    -- refused as corrupt, and nothing changed, z and w neither: an allocation that finds no clear slot, and a free where
-    -- none is counted; a clear slot is not allocated all the same
+    -- refused as corrupt, and nothing changed, z and w neither: an allocation that finds no clear slot, and a free
+    -- where none is counted; a clear slot is not allocated all the same
     ∷ row (answerTo 1_024 (classFive 0x0f 1) (allocate 256)) (13 ∷ 0 ∷ [])
     ∷ row (after 1_024 (classFive 0x0f 1) (allocate 256)) (classFive 0x0f 1)
     ∷ row (answerTo 1_024 (classFive 0x01 0) (free 5_120)) (13 ∷ 0 ∷ [])
@@ -120,8 +141,8 @@ further =
     ∷ row (answerTo 32_768 (clear 32_768 1 1) (allocate 16_385)) (5 ∷ 0 ∷ [])
     ∷ row (answerTo 1_024 (clear 1_024 1 1) (remaining 12_287)) (0 ∷ 0 ∷ [])
     ∷ row (answerTo 1_024 (clear 1_024 1 1) (remaining 12_288)) (8 ∷ 0 ∷ [])
-    -- requests for nothing: the third draw takes slot 335, which has 8 bytes; a class with 63 of 128 slots live takes one
-    -- more, and one with 64 none
+    -- requests for nothing: the third draw takes slot 335, which has 8 bytes; a class with 63 of 128 slots live takes
+    -- one more, and one with 64 none
     ∷ row (answerTo 4_096 afterSeven (allocate 0)) (0 ∷ 2_680 ∷ [])
     ∷ row (after 4_096 afterSeven (allocate 0))
     (set (set (set (set (clear 4_096 0x2a58ab6f 0x3b99e34f) 8 1) 24 1) 101 0x80) 180 0x01)
@@ -147,13 +168,20 @@ further =
     ∷ row (shownThere onlySlotSet (read 8_188 9)) (0 ∷ 4 ∷ 0 ∷ 8_188 ∷ 1 ∷ 2 ∷ 3 ∷ 4 ∷ [])
     ∷ row (shownThere onlySlotSet (read 8_189 2)) (0 ∷ 2 ∷ 0 ∷ 8_189 ∷ 2 ∷ 3 ∷ [])
     ∷ row (shownThere onlySlotSet (read 8_189 0)) (0 ∷ 0 ∷ 0 ∷ 8_189 ∷ [])
+    -- more than a few bytes, and a whole object
+    ∷ row (shownThere onlySlotSet (read 8_180 11)) (0 ∷ 11 ∷ 0 ∷ 8_180 ∷ replicate 8 0x11 ++ (1 ∷ 2 ∷ 3 ∷ []))
+    ∷ row (shownThere onlySlotSet (read 7_168 1_025))
+    (0 ∷ 1_024 ∷ 0 ∷ 7_168 ∷ replicate 1_020 0x11 ++ (1 ∷ 2 ∷ 3 ∷ 4 ∷ []))
     -- reads of the page: of a clear slot, of more than the page has, in a region without slots, and of no page
     ∷ row (shownThere (clear 1_024 1 1) (read 8_188 2)) (0 ∷ 2 ∷ 1 ∷ 0x70 ∷ 0x71 ∷ [])
     ∷ row (shownThere (clear 1_024 1 1) (read 8_188 4_294_967_295)) (0 ∷ 3 ∷ 1 ∷ 0x70 ∷ 0x71 ∷ 0x72 ∷ [])
     ∷ row (shownThere onlySlotSet (read 8_192 1)) (0 ∷ 1 ∷ 1 ∷ 0x70 ∷ [])
     ∷ row (showing [] [] 1_024 (clear 1_024 1 1) (read 8_188 2)) (0 ∷ 0 ∷ 1 ∷ [])
-    -- refused reads, and what is no read, show the empty part of the page: past the end, on metadata a byte short or with
-    -- too high a count, and where a byte is set that must be zero
+    -- of a longer page
+    ∷ row (shownWith (letters 9) (clear 1_024 1 1) (read 8_188 7)) (0 ∷ 7 ∷ 1 ∷ letters 7)
+    ∷ row (shownWith (letters 9) (clear 1_024 1 1) (read 8_188 10)) (0 ∷ 9 ∷ 1 ∷ letters 9)
+    -- refused reads, and what is no read, show the empty part of the page: past the end, on metadata a byte short or
+    -- with too high a count, and where a byte is set that must be zero
     ∷ row (shownThere onlySlotSet (read 12_288 4)) (8 ∷ 0 ∷ 1 ∷ [])
     ∷ row (shownThere (drop 1 onlySlotSet) (read 8_188 4)) (3 ∷ 0 ∷ 1 ∷ [])
     ∷ row (shownThere (set onlySlotSet 12 33) (read 8_188 4)) (13 ∷ 0 ∷ 1 ∷ [])

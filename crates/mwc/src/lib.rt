@@ -21,8 +21,8 @@ fn step_half(multiplier: u32, x: u32) -> u32
     multiplier * (x % 65536) + x / 65536
 }
 
-// Whether a half is zero or freezes: the multiplier times 65,536, less one, divides it. Modulo that number a draw divides
-// by 65,536, so that a multiple comes from multiples alone, and nothing else stays unchanged.
+// Whether a half is zero or freezes: the multiplier times 65,536, less one, divides it. A draw divides by 65,536 modulo
+// that number, so that a multiple comes from multiples alone, and nothing else stays unchanged.
 fn is_frozen(multiplier: u32, x: u32) -> bool
     requires { ⌜ (0 < multiplier) × (multiplier < 65536) ⌝ }
     ensures { λ r. ⌜ r ≡ eqb (x % (multiplier * 65536 - 1)) 0 ⌝ }

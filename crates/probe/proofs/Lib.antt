@@ -1,1 +1,2 @@
+-- Laws of the search for a slot by draws.
 pub mod Probe

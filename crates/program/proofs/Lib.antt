@@ -1,1 +1,2 @@
+-- Laws of what arguments ask for.
 pub mod Choosing

@@ -1,1 +1,2 @@
+-- Laws of a request's bytes.
 pub mod Parsing

@@ -22,8 +22,9 @@ use Rattle.rules.specs.Outcome.{allocated, freed, metadataAfter}
 use Rattle.rules.specs.Allocate.{allocate}
 use Rattle.rules.specs.Object.{free}
 use Rattle.writing.proofs.Writing.{overwrite-length}
-use Rattle.rules.proofs.Metadata.{generator-length, generator-counts, generator-canary, generator-bitmaps, count-length, count-written, count-other, count-bitmaps}
-use Rattle.rules.proofs.Metadata.{count-canary, canary-length, canary-counts, canary-bitmaps, bitmap-canary}
+use Rattle.rules.proofs.Metadata.{generator-length, generator-counts, generator-canary, generator-bitmaps}
+use Rattle.rules.proofs.Metadata.{count-length, count-written, count-other, count-bitmaps, count-canary}
+use Rattle.rules.proofs.Metadata.{canary-length, canary-counts, canary-bitmaps, bitmap-canary}
 use Rattle.rules.proofs.Metadata.{bitmap-within, bitmap-length, bitmap-written, bitmap-other, bitmap-counts, zeros}
 use Rattle.rules.proofs.Finding.{allocate-finds, free-finds}
 
@@ -158,7 +159,8 @@ fresh-valid G s small =
 pub fresh-clear : (G : Layout) (s : Setup) (c i : ℕ) → liveBit G (fresh G s) c i ≡ 0
 fresh-clear G s c i =
     let blank : List ℕ = replicate (metadataLength G) 0 in
+    let seeded : List ℕ = withGenerator blank (s .seeds) in
     elim (decLt (i / 8) (bitmapLength G c)) [
-      | yes h ↦ rw (canary-bitmaps (withGenerator blank (s .seeds)) (s .canary) G c, generator-bitmaps blank (s .seeds) G c, getD-take, getD-drop, zeros, zero-div)
+      | yes h ↦ rw (canary-bitmaps seeded (s .canary) G c, generator-bitmaps blank (s .seeds) G c, getD-take, getD-drop, zeros, zero-div)
       | no h ↦ bit-past (bitmapOf G c (fresh G s)) i (omega (arith, length-take (bitmapLength G c) (drop (bitmapAt G c) (fresh G s))))
     ]

@@ -1,3 +1,4 @@
+-- The theorems on requests, runs, openings and inspections, the laws that lead to them, and examples.
 pub mod Accepting
 pub mod Clipping
 pub mod Metadata

@@ -103,8 +103,10 @@ module _ (G : Layout) (m : List ℕ) where
   result valid lent (Whole (Free offset)) =
       served-or-refused _ (free-comes offset)
       (λ e. let (start, ends) = free-ends G m valid offset e in (turn 0 _ _, freeing offset start ends))
-  result valid lent (Whole (Remaining offset)) = served-or-refused _ (remaining-comes offset) (λ e. (none, measuring _ tt (record { served = refl; kept = refl })))
-  result valid lent (Whole (Copy offset kind)) = served-or-refused _ (copy-comes offset kind (lent .source)) (λ e. (none, measuring _ tt (record { served = refl; kept = refl })))
+  result valid lent (Whole (Remaining offset)) =
+      served-or-refused _ (remaining-comes offset) (λ e. (none, measuring _ tt (record { served = refl; kept = refl })))
+  result valid lent (Whole (Copy offset kind)) =
+      served-or-refused _ (copy-comes offset kind (lent .source)) (λ e. (none, measuring _ tt (record { served = refl; kept = refl })))
   result valid lent (Whole (Read offset count)) =
       served-or-refused _ (read-comes offset count (length (lent .page))) (λ e. (none, measuring _ tt (record { served = refl; kept = refl })))
   result valid lent Malformed = (none, refusal Malformed _)

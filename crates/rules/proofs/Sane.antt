@@ -18,7 +18,8 @@ use Rattle.request.specs.declared.Request.the-variants.{Allocate, Free, Remaini
 use Rattle.request.specs.declared.Parsed.{Parsed}
 use Rattle.request.specs.declared.Parsed.the-variants.{Whole, Malformed}
 use Rattle.answer.specs.declared.Refusal.{Refusal}
-use Rattle.answer.specs.declared.Refusal.the-variants.{UnsupportedSize, ClassTooSmall, ClassAtCapacity, OutOfRange, NotASlotStart, NotAllocated, CorruptMetadata}
+use Rattle.answer.specs.declared.Refusal.the-variants.{UnsupportedSize, ClassTooSmall, ClassAtCapacity, OutOfRange}
+use Rattle.answer.specs.declared.Refusal.the-variants.{NotASlotStart, NotAllocated, CorruptMetadata}
 use Rattle.answer.specs.Reply.{numberOf}
 use Rattle.rules.specs.Metadata.{generatorOf, countOf, bitmapOf}
 use Rattle.rules.specs.Outcome.{Outcome, refused, reply}

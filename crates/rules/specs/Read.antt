@@ -11,8 +11,8 @@ use Rattle.rules.specs.View.{view}
 use Rattle.rules.specs.Outcome.{Outcome, refused, shown}
 use Rattle.rules.specs.Object.{ifPast, space}
 
--- what is shown of count bytes with a given room to the end of the live object: the bytes from the offset on that are in
--- the room; in no live object, where there is none, the front of the page
+-- what is shown of count bytes with a given room to the end of the live object: the bytes from the offset on that are
+-- in the room; in no live object, where there is none, the front of the page
 abbrev pub viewIn : ℕ → ℕ → ℕ → ℕ → View
 viewIn offset room count pageBytes =
     cond (eqb room 0) (view Page (min count pageBytes)) (view (Heap offset) (min count room))

@@ -1,3 +1,4 @@
+-- Laws of counting upward: the first number that passes a test, all that do, and what a function gives at each.
 pub mod First
 pub mod Those
 pub mod Blocks

@@ -1,1 +1,2 @@
+-- Laws of what a read shows.
 pub mod Room

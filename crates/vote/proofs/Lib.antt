@@ -1,3 +1,4 @@
+-- Laws of comparing, counting and the winner of a vote, and examples.
 pub mod Blocks
 pub mod Decision
 pub mod Lowest

@@ -1,1 +1,2 @@
+-- Laws of stored numbers.
 pub mod Stored

@@ -5,7 +5,8 @@ use mathlib.Core.List.{List, [], _∷_, _++_, append-assoc}
 use native.Mathlib.Nat.{zero-add, suc-add}
 use native.Mathlib.Omega.{arith}
 use lib.ListN.{length, take, drop, getD, length-drop, take-append-drop, List·getD-append}
-use lib.Seq.{take-nil, length-take-le, take-at, take-take, drop-at, take-append-le, drop-append-le, drop-append-seam, drop-drop, getD-append-add, getD-take, getD-drop}
+use lib.Seq.{take-nil, length-take-le, take-at, take-take, drop-at, drop-drop, getD-take, getD-drop}
+use lib.Seq.{take-append-le, drop-append-le, drop-append-seam, getD-append-add}
 use Rattle.writing.specs.Overwrite.{overwrite}
 
 -- a part of a front is a part of the whole

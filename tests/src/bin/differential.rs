@@ -35,7 +35,7 @@ const TOO_SHORT: Answer = Answer {
     value: 0,
 };
 /// The page of calls that do not choose one.
-const PAGE: &[u8] = b"stand-in page";
+const PAGE: &[u8] = b"fallback page";
 /// The pattern of openings that do not choose one: its bytes are all different.
 const PATTERN: u32 = u32::from_le_bytes(PATTERN_BYTES);
 const PATTERN_BYTES: [u8; 4] = [0xA9, 0xC7, 0xE3, 0xB5];
@@ -58,7 +58,7 @@ fn main() {
         counts_above_half(&mut tester, shape);
         counts_of_half(&mut tester, shape);
         counts_of_nothing(&mut tester, shape);
-        painted_slots(&mut tester, shape);
+        filled_slots(&mut tester, shape);
         inspected_edges(&mut tester, shape);
         inspected_slots(&mut tester, shape);
         looked_up_slots(&mut tester, shape);
@@ -371,7 +371,7 @@ fn document_cases(tester: &mut Tester) {
     reads(tester);
     refused_reads(tester);
     counts_among_checks(tester);
-    painting_frees(tester);
+    filling_frees(tester);
     inspections(tester);
     inspections_among_checks(tester);
     for (blocks, number, mask) in [
@@ -596,7 +596,7 @@ fn counts_among_checks(tester: &mut Tester) {
 /// An object of 8 bytes at 640, and text all round it: a free that is served
 /// writes the pattern over the object, and one that is refused nothing. An
 /// allocation writes nothing.
-fn painting_frees(tester: &mut Tester) {
+fn filling_frees(tester: &mut Tester) {
     let mut session = Session::counting(Shape { region: 4_096 });
     session.open(tester, 1, 1);
     session.scribble(632, b"before it, the object, behind it");
@@ -607,20 +607,17 @@ fn painting_frees(tester: &mut Tester) {
         expect(session.heap.bytes() == text, "a heap after a refused free");
     }
     session.run(tester, FREE, 640);
-    let mut painted = text;
-    painted[640..648].copy_from_slice(&[PATTERN_BYTES, PATTERN_BYTES].concat());
-    expect(
-        session.heap.bytes() == painted,
-        "a heap after a served free",
-    );
+    let mut filled = text;
+    filled[640..648].copy_from_slice(&[PATTERN_BYTES, PATTERN_BYTES].concat());
+    expect(session.heap.bytes() == filled, "a heap after a served free");
     let mut metadata = session.metadata.bytes().to_vec();
     inputs::set_pattern(&mut metadata, 0);
     metadata[70] = 1; // slot 80 is live
     metadata[8] = 1;
     session.replace_metadata(&metadata);
     session.run(tester, FREE, 640);
-    painted[640..648].fill(0);
-    expect(session.heap.bytes() == painted, "a free by another pattern");
+    filled[640..648].fill(0);
+    expect(session.heap.bytes() == filled, "a free by another pattern");
 }
 
 /// An object of 8 bytes at 640: nothing is listed until others write past it or
@@ -652,10 +649,7 @@ fn inspections(tester: &mut Tester) {
         expect(found == answer && listed == expected, "a list's length");
     }
     session.scribble(640, &[PATTERN_BYTES; 3].concat());
-    expect(
-        session.inspect(tester, 9).1 == [648, 656],
-        "painted by hand",
-    );
+    expect(session.inspect(tester, 9).1 == [648, 656], "filled by hand");
     session.scribble(640, &[PATTERN_BYTES; 7].concat()[1..]);
     expect(
         session.inspect(tester, 9).1 == [640, 648, 656, 664],
@@ -935,7 +929,7 @@ fn counts_of_nothing(tester: &mut Tester, shape: Shape) {
 
 /// Opening writes the pattern over every slot, anew from its first byte on, and
 /// no byte outside slots.
-fn painted_slots(tester: &mut Tester, shape: Shape) {
+fn filled_slots(tester: &mut Tester, shape: Shape) {
     let mut session = Session::counting(shape);
     let mut expected = session.heap.bytes().to_vec();
     session.open(tester, 1, 1);
@@ -945,7 +939,7 @@ fn painted_slots(tester: &mut Tester, shape: Shape) {
             expected[start + at] = PATTERN_BYTES[at % size % 4];
         }
     }
-    expect(session.heap.bytes() == expected, "painted slots");
+    expect(session.heap.bytes() == expected, "filled slots");
     expect(session.inspect(tester, 0).0.number == 0, "an opened heap");
 }
 
@@ -1095,11 +1089,11 @@ fn random_guard(rng: &mut Random) -> usize {
 }
 
 fn random_vote(tester: &mut Tester, rng: &mut Random) {
-    let ballot = inputs::ballot(rng);
+    let vote = inputs::vote(rng);
     let guard = random_guard(rng);
-    let mut blocks = Twin::new(&ballot.blocks, guard);
-    let mut output = Twin::new(&ballot.output, guard);
-    tester.vote(&mut blocks, ballot.replicas, ballot.block_len, &mut output);
+    let mut blocks = Twin::new(&vote.blocks, guard);
+    let mut output = Twin::new(&vote.output, guard);
+    tester.vote(&mut blocks, vote.replicas, vote.block_len, &mut output);
 }
 
 /// Calls on buffers whose lengths seldom belong together.
@@ -1225,7 +1219,7 @@ fn foreign_start(rng: &mut Random, session: &mut Session) {
         let pattern = inputs::pattern_of(&metadata);
         session
             .heap
-            .replace(&inputs::painted(session.shape, pattern));
+            .replace(&inputs::filled(session.shape, pattern));
     }
 }
 

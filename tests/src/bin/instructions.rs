@@ -99,8 +99,8 @@ fn main() -> ExitCode {
     let mut heap = vec![0; HEAP];
     let mut metadata = vec![0; reference::metadata_length(HEAP)];
     reference::open(&mut heap, &mut metadata, 1, 1, 0);
-    let place = request(0, 256, 0);
-    let at = reference::serve(&mut heap, &mut metadata, &place, &[], &[]).value;
+    let allocate = request(0, 256, 0);
+    let at = reference::serve(&mut heap, &mut metadata, &allocate, &[], &[]).value;
     if let Some(count) = called(word) {
         let read = if ours { capi::read } else { second_read };
         let (at, count) = black_box((at, count));

@@ -44,7 +44,8 @@ returns c =
     let loop = c .before .before .before .before .loop in
     let a = start .args in
     let s = a .source .now in
-    let has : indexOf 0 s < loop .at + a .block = block-has s (loop .at) (omega (arith, loop .inv .0)) (a .block) (omega (arith, start .pre)) (c .before .has-zero .ensures) (c .if1 .taken) in
+    let has : indexOf 0 s < loop .at + a .block =
+    block-has s (loop .at) (omega (arith, loop .inv .0)) (a .block) (omega (arith, start .pre)) (c .before .has-zero .ensures) (c .if1 .taken) in
     block-last (a .from) (min (a .count) (indexOf 0 s)) (a .block) (loop .at) (loop .inv .0) (omega (arith, has)) (loop .inv .1)
 
 loop-less : tie.Need-loop-less Inv-loop μ-loop
@@ -56,7 +57,8 @@ loop-again c =
     let loop = c .before .before .before .before .loop in
     let a = start .args in
     let s = a .source .now in
-    let none : loop .at + a .block ≤ indexOf 0 s = block-none s (loop .at) (omega (arith, loop .inv .0)) (a .block) (omega (arith, start .pre)) (c .before .has-zero .ensures) (c .if1 .left) in
+    let none : loop .at + a .block ≤ indexOf 0 s =
+    block-none s (loop .at) (omega (arith, loop .inv .0)) (a .block) (omega (arith, start .pre)) (c .before .has-zero .ensures) (c .if1 .left) in
     let more : loop .at + a .block ≤ min (a .count) (indexOf 0 s) = omega (arith, none, c .before .before .before .loop-test .taken, loop .inv .0) in
     (more, block-passed (a .from) (min (a .count) (indexOf 0 s)) (a .block) (loop .at) more (loop .inv .1))
 

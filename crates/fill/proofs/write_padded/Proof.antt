@@ -48,7 +48,8 @@ returns c =
     let found = c .before .before .before .before .before .before .before .before .before in
     let a = found .before .before .before .before .before .before .args in
     let room = rw (found .before .before .before .wide .ensures .0) at (found .before .before .least .ensures) in
-    padded-put (a .source .now) (a .count) (a .target .now) room (found .before .least2 .ensures) (found .find-zero .ensures) (c .before .before .before .before .before .before .write .ensures .1) (c .before .before .clear .ensures)
+    padded-put (a .source .now) (a .count) (a .target .now) room (found .before .least2 .ensures) (found .find-zero .ensures)
+    (c .before .before .before .before .before .before .write .ensures .1) (c .before .before .clear .ensures)
 
 pub write-padded-spec : {M : Type 1} → statement M
 write-padded-spec =

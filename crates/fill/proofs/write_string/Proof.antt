@@ -33,7 +33,8 @@ returns : tie.Need-returns
 returns c =
     let found = c .before .before .before .before .before .before in
     let a = found .before .before .before .before .args in
-    let text = string-part (a .source .now) (length (a .target .now)) (found .before .least .ensures) (found .find-zero .ensures) (c .before .before .before .before .before .if1 .taken) in
+    let text = string-part (a .source .now) (length (a .target .now)) (found .before .least .ensures) (found .find-zero .ensures)
+    (c .before .before .before .before .before .if1 .taken) in
     rw (← text) (c .before .before .write .ensures)
 
 write-clipped-requires : tie.Need-write-clipped-requires
@@ -46,7 +47,8 @@ returns-2 : tie.Need-returns-2
 returns-2 c =
     let found = c .before .before .before .before .before in
     let a = found .before .before .before .before .args in
-    let text = string-rest (a .source .now) (length (a .target .now)) (found .before .least .ensures) (found .find-zero .ensures) (c .before .before .before .before .if1 .left) in
+    let text = string-rest (a .source .now) (length (a .target .now)) (found .before .least .ensures) (found .find-zero .ensures)
+    (c .before .before .before .before .if1 .left) in
     rw (← text) (c .before .before .write-clipped .ensures)
 
 pub write-string-spec : {M : Type 1} → statement M

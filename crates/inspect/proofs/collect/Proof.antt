@@ -4,7 +4,8 @@ use mathlib.Core.Logic.{⊎-elim}
 use native.Mathlib.Omega.{arith}
 use lib.ListN.{length}
 use Rattle.rules.specs.Inspect.{isHit}
-use Rattle.inspect.proofs.Listing.{Listing, listing-none, listing-length, listing-end, listing-last, listing-onward, listing-room, listing-more, listing-past}
+use Rattle.inspect.proofs.Listing.{Listing, listing-none, listing-length, listing-end, listing-last}
+use Rattle.inspect.proofs.Listing.{listing-onward, listing-room, listing-more, listing-past}
 use Rattle.inspect.proofs.collect.Statement.{statement}
 use Rattle.inspect.proofs.collect.Tie as tie
 
@@ -26,7 +27,8 @@ same-length c = listing-length _ _ _ (c .before .before .before .loop .inv)
 returns : tie.Need-returns Inv-loop μ-loop
 returns c =
     let start = c .before .before .before .before .before .before .before in
-    rw (← (start .pre .heap)) (listing-last _ _ _ (c .before .before .before .loop .inv) (c .before .before .loop-test .taken) (c .before .next .ensures) (c .if1 .taken))
+    let inv = c .before .before .before .loop .inv in
+    rw (← (start .pre .heap)) (listing-last _ _ _ inv (c .before .before .loop-test .taken) (c .before .next .ensures) (c .if1 .taken))
 
 cast-list : tie.Need-cast-list Inv-loop μ-loop
 cast-list c = let start = c .before .before .before .before .before .before .before .before in omega (arith, start .pre .small, start .pre .heap)
@@ -35,7 +37,9 @@ mul-list : tie.Need-mul-list Inv-loop μ-loop
 mul-list c =
     let next = c .before .before in
     let start = next .before .before .before .before .before .before in
-    omega (arith, start .pre .small, start .pre .heap, listing-room _ _ _ (next .before .before .loop .inv) (next .before .loop-test .taken) (next .next .ensures) (c .before .if1 .left))
+    let inv = next .before .before .loop .inv in
+    let room = listing-room _ _ _ inv (next .before .loop-test .taken) (next .next .ensures) (c .before .if1 .left) in
+    omega (arith, start .pre .small, start .pre .heap, room)
 
 slice-write-list : tie.Need-slice-write-list Inv-loop μ-loop
 slice-write-list c = omega arith
@@ -57,9 +61,11 @@ loop-again : tie.Need-loop-again Inv-loop μ-loop
 loop-again c =
     let next = c .before .before in
     let inv = next .before .before .loop .inv in
+    let ahead = next .before .loop-test .taken in
+    let here = c .before .if1 .left in
     ⊎-elim
-    (λ w. rw (w .1) (listing-more _ _ _ inv (next .before .loop-test .taken) (next .next .ensures) (c .before .if1 .left) (rw (listing-length _ _ _ inv) at (w .0 .taken))))
-    (λ w. rw (w .1) (listing-past _ _ _ inv (next .before .loop-test .taken) (next .next .ensures) (c .before .if1 .left) (rw (listing-length _ _ _ inv) at (w .0 .left))))
+    (λ w. rw (w .1) (listing-more _ _ _ inv ahead (next .next .ensures) here (rw (listing-length _ _ _ inv) at (w .0 .taken))))
+    (λ w. rw (w .1) (listing-past _ _ _ inv ahead (next .next .ensures) here (rw (listing-length _ _ _ inv) at (w .0 .left))))
     (c .if2 .came)
 
 same-length-2 : tie.Need-same-length-2 Inv-loop μ-loop

@@ -47,7 +47,9 @@ cast-t14 : tie.Need-cast-t14
 cast-t14 c =
     let looked = c .before .before .before .before .before .before .before .before in
     let start = looked .before .before .before .before .before in
-    omega (arith, looked .collect .ensures .0, start .pre .small, start .pre .heap, those-few (isHit (start .args .layout) (start .args .metadata .now) (start .args .heap .now)) 0 (heapLength (start .args .layout)))
+    let a = start .args in
+    let few = those-few (isHit (a .layout) (a .metadata .now) (a .heap .now)) 0 (heapLength (a .layout)) in
+    omega (arith, looked .collect .ensures .0, start .pre .small, start .pre .heap, few)
 
 same-length-3 : tie.Need-same-length-3
 same-length-3 c = search needs
@@ -57,7 +59,9 @@ returns-3 c =
     let looked = c .before .before .before .before .before .before .before .before in
     let a = looked .before .before .before .before .before .args in
     let kept = looked .collect .ensures .1 in
-    let (whole, all) = list-fits (a .list .now) (hits (a .layout) (a .metadata .now) (a .heap .now)) (looked .collect .ensures .0) (rw kept at (c .before .before .before .before .before .if1 .left)) in
+    let (whole, all) =
+    list-fits (a .list .now) (hits (a .layout) (a .metadata .now) (a .heap .now)) (looked .collect .ensures .0)
+    (rw kept at (c .before .before .before .before .before .if1 .left)) in
     rw (whole, looked .collect .ensures .0, c .before .before .collect2 .ensures .1, kept, all) (refl, refl)
 
 pub list-whole-spec : {M : Type 1} → statement M

@@ -36,7 +36,8 @@ ended : (c : tie.After-power-quotient Inv-loop μ-loop)
     (at < end) × (end ≤ length (a .heap .now)) × (end ≡ suc (at / a .layout .region) * a .layout .region)
 ended c =
     let start = c .before .before .before .before .before .before in
-    region-end (start .args .layout) (c .before .loop-test .taken) (start .pre .0 .heap) (c .before .before .before .wide .ensures .0) (c .power-quotient .ensures .0)
+    region-end (start .args .layout) (c .before .loop-test .taken) (start .pre .0 .heap)
+    (c .before .before .before .wide .ensures .0) (c .power-quotient .ensures .0)
 
 add-end : tie.Need-add-end Inv-loop μ-loop
 add-end c = omega (arith, c .power-quotient .ensures)

@@ -19,7 +19,9 @@ power-quotient-requires : tie.Need-power-quotient-requires
 power-quotient-requires c κs = search needs
 
 mul-start : tie.Need-mul-start
-mul-start c = rw (c .power-quotient .ensures .0) (omega (arith, div-mul-le-self (c .before .before .before .before .args .at) (c .before .wide .result), c .before .before .before .before .pre .1))
+mul-start c =
+    let start = c .before .before .before .before in
+    rw (c .power-quotient .ensures .0) (omega (arith, div-mul-le-self (start .args .at) (c .before .wide .result), start .pre .1))
 
 slot-size-requires : tie.Need-slot-size-requires
 slot-size-requires c κs = search needs
@@ -29,10 +31,12 @@ part-requires c κs = search needs
 
 -- where the region and its slots lie
 near : (c : tie.After-part) → let a = c .before .before .before .before .before .before .args in
-    Around (a .at) (length (a .heap .now)) (c .before .before .power-quotient .result) (c .before .before .before .wide .result) (c .part .result .slots) (c .before .slot-size .result)
+    Around (a .at) (length (a .heap .now)) (c .before .before .power-quotient .result) (c .before .before .before .wide .result)
+    (c .part .result .slots) (c .before .slot-size .result)
 near c =
     let start = c .before .before .before .before .before .before in
-    around (start .args .layout) (start .pre .1) (start .pre .0 .heap) (c .before .before .before .wide .ensures .0) (c .before .before .power-quotient .ensures .0)
+    around (start .args .layout) (start .pre .1) (start .pre .0 .heap)
+    (c .before .before .before .wide .ensures .0) (c .before .before .power-quotient .ensures .0)
     (c .before .slot-size .ensures) (ap (λ p. p .slots) (c .part .ensures))
 
 mul-next-slot : tie.Need-mul-next-slot
@@ -83,12 +87,14 @@ next-slot-requires c κs =
 mul-result : tie.Need-mul-result
 mul-result c =
     let part = c .before .before .before .before .before .before in
-    omega (arith, near part, mul-le-mul-right (part .before .slot-size .result) (c .if1 .taken), suc-mul (c .before .next-slot .result) (part .before .slot-size .result))
+    let size = part .before .slot-size .result in
+    omega (arith, near part, mul-le-mul-right size (c .if1 .taken), suc-mul (c .before .next-slot .result) size)
 
 add-result : tie.Need-add-result
 add-result c =
     let part = c .before .before .before .before .before .before in
-    omega (arith, near part, mul-le-mul-right (part .before .slot-size .result) (c .if1 .taken), suc-mul (c .before .next-slot .result) (part .before .slot-size .result))
+    let size = part .before .slot-size .result in
+    omega (arith, near part, mul-le-mul-right size (c .if1 .taken), suc-mul (c .before .next-slot .result) size)
 
 -- the search's slot is a hit, or there is none in the region
 found : (c : tie.After-next-slot)
@@ -108,9 +114,11 @@ found c =
     let a = class .before .before .before .before .args in
     let bits = part-bitmap (a .layout) (class .power-quotient .result) (part .part .ensures) (a .metadata .now) in
     let count = ap (λ p. p .slots) (part .part .ensures) in (
-      found-hit (a .layout) (a .metadata .now) (a .heap .now) (near part) (class .before .wide .ensures .0) (class .power-quotient .ensures .0) (sized .slot-size .ensures) count
+      found-hit (a .layout) (a .metadata .now) (a .heap .now) (near part) (class .before .wide .ensures .0)
+          (class .power-quotient .ensures .0) (sized .slot-size .ensures) count
           (c .before .before .get .ensures) bits (c .before .power-quotient2 .ensures .0) (c .next-slot .ensures),
-      found-none (a .layout) (a .metadata .now) (a .heap .now) (near part) (class .before .wide .ensures .0) (class .power-quotient .ensures .0) (sized .slot-size .ensures) count
+      found-none (a .layout) (a .metadata .now) (a .heap .now) (near part) (class .before .wide .ensures .0)
+          (class .power-quotient .ensures .0) (sized .slot-size .ensures) count
           (c .before .before .get .ensures) bits (c .before .power-quotient2 .ensures .0) (c .next-slot .ensures),
     )
 

@@ -39,13 +39,20 @@ loop-again c =
     (sym (c .before .is-set .ensures) ∙ c .if1 .taken)
 
 mul-start : tie.Need-mul-start Inv-loop μ-loop
-mul-start c = let start = c .before .before .before .before .before .before in omega (arith, starts-inside (start .args .bytes .now) (start .args .slots) (start .args .size) (start .pre) (c .before .before .before .loop .slot) (c .before .before .loop-test .taken))
+mul-start c =
+    let start = c .before .before .before .before .before .before in
+    let a = start .args in
+    let slot = c .before .before .before .loop .slot in
+    omega (arith, starts-inside (a .bytes .now) (a .slots) (a .size) (start .pre) slot (c .before .before .loop-test .taken))
 
 sub-first-damage : tie.Need-sub-first-damage Inv-loop μ-loop
-sub-first-damage c = let start = c .before .before .before .before .before .before in starts-inside (start .args .bytes .now) (start .args .slots) (start .args .size) (start .pre) (c .before .before .before .loop .slot) (c .before .before .loop-test .taken)
+sub-first-damage c =
+    let start = c .before .before .before .before .before .before in
+    let a = start .args in
+    starts-inside (a .bytes .now) (a .slots) (a .size) (start .pre) (c .before .before .before .loop .slot) (c .before .before .loop-test .taken)
 
 part-first-damage-start : tie.Need-part-first-damage-start Inv-loop μ-loop
-part-first-damage-start c = let start = c .before .before .before .before .before .before in starts-inside (start .args .bytes .now) (start .args .slots) (start .args .size) (start .pre) (c .before .before .before .loop .slot) (c .before .before .loop-test .taken)
+part-first-damage-start c = sub-first-damage c
 
 part-first-damage-end : tie.Need-part-first-damage-end Inv-loop μ-loop
 part-first-damage-end c = search needs
@@ -62,8 +69,9 @@ returns c =
     let loop = clear .before .before .before .loop in
     let start = clear .before .before .before .before .before .before in
     let a = start .args in
-    sym (loop .inv ∙ none-intact (a .canary) (a .bytes .now) (a .bitmap .now) (a .slots) (a .size) (start .pre) (loop .slot) (clear .before .before .loop-test .taken)
-    (c .before .before .first-damage .ensures) (c .before .power-quotient .ensures .0) (sym (clear .before .is-set .ensures) ∙ clear .if1 .left) (c .if2 .taken))
+    let unset = sym (clear .before .is-set .ensures) ∙ clear .if1 .left in
+    sym (loop .inv ∙ none-intact (a .canary) (a .bytes .now) (a .bitmap .now) (a .slots) (a .size) (start .pre) (loop .slot)
+    (clear .before .before .loop-test .taken) (c .before .before .first-damage .ensures) (c .before .power-quotient .ensures .0) unset (c .if2 .taken))
 
 -- no more slots hold the canary than there are
 inside : (c : tie.After-power-quotient Inv-loop μ-loop)
@@ -73,8 +81,8 @@ inside c =
     let clear = c .before .before .before in
     let start = clear .before .before .before .before .before .before in
     let a = start .args in
-    intact-inside (a .canary) (a .bytes .now) (a .bitmap .now) (a .slots) (a .size) (start .pre) (clear .before .before .before .loop .slot) (clear .before .before .loop-test .taken)
-    (c .before .first-damage .ensures) (c .power-quotient .ensures .0)
+    intact-inside (a .canary) (a .bytes .now) (a .bitmap .now) (a .slots) (a .size) (start .pre)
+    (clear .before .before .before .loop .slot) (clear .before .before .loop-test .taken) (c .before .first-damage .ensures) (c .power-quotient .ensures .0)
 
 add-slot-2 : tie.Need-add-slot-2 Inv-loop μ-loop
 add-slot-2 c = omega (arith, inside (c .before))
@@ -88,8 +96,8 @@ loop-again-2 c =
     let loop = clear .before .before .before .loop in
     let start = clear .before .before .before .before .before .before in
     let a = start .args in
-    loop .inv ∙ intact-passed (a .canary) (a .bytes .now) (a .bitmap .now) (a .slots) (a .size) (start .pre) (loop .slot) (clear .before .before .loop-test .taken)
-    (c .before .before .first-damage .ensures) (c .before .power-quotient .ensures .0)
+    loop .inv ∙ intact-passed (a .canary) (a .bytes .now) (a .bitmap .now) (a .slots) (a .size) (start .pre) (loop .slot)
+    (clear .before .before .loop-test .taken) (c .before .before .first-damage .ensures) (c .before .power-quotient .ensures .0)
 
 returns-2 : tie.Need-returns-2 Inv-loop μ-loop
 returns-2 c = sym (c .before .loop .inv ∙ first-none _ (omega arith))

@@ -1,12 +1,12 @@
 //! Ratios in one run: the proved library against the second implementation, other allocators, memcpy, memset and memcmp.
 //! `bench BENCHRUN` prints tables in Markdown. Contenders take turns, and medians of the rounds are shown.
 
+mod canaries;
 mod churn;
 mod copies;
 mod heap;
 mod measure;
 mod operations;
-mod painting;
 mod reads;
 mod stream;
 mod votes;
@@ -33,7 +33,7 @@ fn all(benchrun: &str) {
     }
     operations::sizes();
     operations::growth();
-    painting::tables();
+    canaries::tables();
     reads::table();
     votes::table();
     copies::table();

@@ -1,4 +1,4 @@
-//! What painting and inspection take, against the C library's memset and memcmp of as many bytes.
+//! What filling with a canary and inspection take, against the C library's memset and memcmp of as many bytes.
 
 use crate::heap::{figure, Heap, PATTERN};
 use crate::measure::{head, repeat, row};
@@ -56,7 +56,7 @@ fn opening(region: usize) {
 }
 
 /// Each class half full of objects that hold no byte of the pattern's.
-fn half_full(region: usize) -> Heap {
+fn at_capacity(region: usize) -> Heap {
     let mut heap = Heap::new(region);
     for size in (3..=14).map(|shift| 1 << shift) {
         for at in heap.fill(size, region / size / 2) {
@@ -154,7 +154,7 @@ fn inspections() {
     for region in REGIONS {
         let name = |state| format!("{state}, {}", figure(region));
         inspection(&name("newly opened"), &Heap::new(region), 12 * region);
-        inspection(&name("half full"), &half_full(region), 6 * region);
+        inspection(&name("half full"), &at_capacity(region), 6 * region);
     }
 }
 
