@@ -17,4 +17,8 @@ pub mod Runs
 pub mod Drawing
 pub mod Inspecting
 pub mod Clean
+pub mod Places
+pub mod Wordings
+pub mod Traits
+pub mod Lasting
 pub mod Examples

@@ -30,7 +30,7 @@ starting c x (o ∷ os) = cond (eqb (o .start) x && eqb (o .class) c) 1 0 + star
 
 module _ (x : ℕ) where
   -- the first object starts at x and goes, or stays
-  without-cons : (o : Object) (os : List Object) (P : List Object → Type 0)
+  pub without-cons : (o : Object) (os : List Object) (P : List Object → Type 0)
       → (eqb (o .start) x ≡ true → P (without x os)) → (eqb (o .start) x ≡ false → P (o ∷ without x os)) → P (without x (o ∷ os))
   unfolding without
   without-cons o os P f g = go (eqb (o .start) x) refl

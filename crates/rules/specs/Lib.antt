@@ -12,4 +12,5 @@ pub mod Call
 pub mod Run
 pub mod Pair
 pub mod Live
+pub mod Wordings
 pub mod Inspect
