@@ -86,7 +86,8 @@ module _ (a : Event) (later : List Event) where
 
       go : (t : Bool) (p : Parsed) → eqb (a .answer .number) 0 ≡ t → a .asked ≡ p → Goal t p
       go true (Whole (Allocate size)) e f =
-          lasting-cons later _ os ∙ ap (λ (l : List Object). lasting later (makesOf G (Whole (Allocate size)) (a .answer .value)) ++ l) (lasting-skip (λ x. rw (e, f)) os)
+          let made : List Object = makesOf G (Whole (Allocate size)) (a .answer .value) in
+          lasting-cons later _ os ∙ ap (λ (l : List Object). lasting later made ++ l) (lasting-skip (λ x. rw (e, f)) os)
       go true (Whole (Free offset)) e f = lasting-free offset (λ x. rw (e, f)) os
       go true (Whole (Remaining offset)) e f = lasting-skip (λ x. rw (e, f)) os
       go true (Whole (Copy offset kind)) e f = lasting-skip (λ x. rw (e, f)) os

@@ -22,3 +22,4 @@ pub mod Wordings
 pub mod Traits
 pub mod Lasting
 pub mod Examples
+pub mod RunExamples
