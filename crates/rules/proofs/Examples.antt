@@ -1,15 +1,16 @@
 -- Examples of the words that the theorems are made of, of objects and counts: what they hold of, and near misses of which
 -- they do not hold. Those of runs are in RunExamples.antt.
-use Prim.Native.Nat.{ℕ, _+_, _*_, _≤_, _<_}
+use Prim.Native.Nat.{ℕ, zero, suc, _+_, _*_, _/_, _≤_, _<_}
 use mathlib.Core.Path.{_≡_, refl, sym, subst}
-use mathlib.Core.Bool.{Bool, true, false, true≢false, not, cond, _&&_, and-false}
+use mathlib.Core.Bool.{true≢false, not}
 use mathlib.Core.List.{List, [], _∷_}
+use mathlib.Core.Logic.{inl}
 use native.Mathlib.Decide.{ℕ-discrete}
 use native.Mathlib.Omega.{arith}
-use lib.Dec.{leb, ltb, eqb}
-use lib.ListN.{set, replicate}
+use lib.Dec.{eqb}
+use lib.ListN.{length, set, replicate}
 use lib.Seq.{getD-set-other}
-use borrow.Author.Tests.{ltb-true, lt-leb, eq-eqb, ne-eqb, eqb-true, not-false}
+use borrow.Author.Tests.{eq-eqb, ne-eqb, eqb-true, not-false}
 use Rattle.search.specs.First.{first}
 use Rattle.search.proofs.First.{first-before}
 use Rattle.geometry.specs.declared.Layout.{Layout}
@@ -20,6 +21,9 @@ use Rattle.rules.specs.Open.{Setup, fresh}
 use Rattle.rules.specs.Allocate.{probe, draws}
 use Rattle.rules.specs.Live.{Object, holding, ofClass, Sound, Counted}
 use Rattle.rules.specs.Inspect.{ClearAlike}
+use Rattle.rules.specs.Wordings.{At, inClass, Disjoint}
+use Rattle.rules.proofs.Places.{at-nowhere, at-first}
+use Rattle.rules.proofs.Wordings.{class-filter, sound-places}
 use Rattle.rules.proofs.Tracking.{tracks-counted, fresh-tracks}
 
 -- a heap with regions of 1,024 bytes: class 0 has 128 slots of 8 bytes, class 5 has 4 of 256, and class 7 is the last with a slot
@@ -39,32 +43,32 @@ slotObject F c i = object (slotStart F c i) c
 
 -- ---- sound
 
-at-most-one : (t : Bool) → cond t 1 0 ≤ 1
-at-most-one true = omega arith
-at-most-one false = omega arith
-
 -- two objects of a class with four slots or more, the second from the end of the first on
 module _ (G : Layout) (a b c : ℕ) (above : a + slotSize G c ≤ b) (room : 4 ≤ slots G c) where
   two : List Object
   two = object a c ∷ object b c ∷ []
 
-  two-apart : (x : ℕ) (t : Bool) → ltb x (a + slotSize G c) ≡ t → holding G x two ≤ 1
-  unfolding holding two
-  two-apart x true e =
-      let h : leb b x ≡ false = lt-leb b x (omega (arith, ltb-true x (a + slotSize G c) e)) in
-      rw (e, h) (omega (arith, at-most-one (leb a x && true)))
-  two-apart x false e = rw (e, and-false (leb a x)) (omega (arith, at-most-one (leb b x && ltb x (b + slotSize G c))))
+  two-apart : (i j : ℕ) (o p : Object) → i < j → At two i o → At two j p → Disjoint G o p
+  unfolding two
+  two-apart i zero o p l e f = absurd (omega arith)
+  two-apart zero (suc zero) o p l e f = rw (← at-first e, ← at-first f) (inl above)
+  two-apart (suc i) (suc zero) o p l e f = absurd (omega arith)
+  two-apart i (suc (suc j)) o p l e f = absurd (at-nowhere f)
 
-  two-half : (d : ℕ) → 2 * ofClass d two ≤ slots G d
+  two-half : (d : ℕ) → length (inClass d two) ≤ slots G d / 2
   unfolding ofClass two
   two-half d = elim (ℕ-discrete c d) [
-    | yes e ↦ rw (eq-eqb c d e) (subst (λ n. 4 ≤ slots G n) e room)
-    | no n ↦ rw (ne-eqb c d n) (omega arith)
+    | yes e ↦
+        let half : ofClass d two ≡ 2 = rw (eq-eqb c d e) refl in
+        let many : 4 ≤ slots G d = subst (λ n. 4 ≤ slots G n) e room in
+        omega (arith, class-filter d two)
+    | no n ↦
+        let none : ofClass d two ≡ 0 = rw (ne-eqb c d n) refl in
+        omega (arith, class-filter d two)
   ]
 
   two-sound : Sound G two
-  two-sound =
-      record { apart = λ x. omega (arith, two-apart x (ltb x (a + slotSize G c)) refl); half = λ d. omega (arith, two-half d) }
+  two-sound = sound-places G two .1 (record { apart = two-apart; half = two-half })
 
 -- neighbours are sound, and two objects that share a byte, the last of the first, are not
 neighbours : Sound G (object 0 0 ∷ object 8 0 ∷ [])

@@ -21,5 +21,6 @@ pub mod Places
 pub mod Wordings
 pub mod Traits
 pub mod Lasting
+pub mod Restated
 pub mod Examples
 pub mod RunExamples

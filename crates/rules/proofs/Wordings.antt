@@ -1,14 +1,14 @@
 -- Words of the theorems say what their second wordings say (specs/Wordings.antt): of objects, counts and runs.
 use Prim.Native.Nat.{ℕ, zero, suc, _+_, _*_, _/_, _%_, _^_, _≤_, _<_}
 use mathlib.Core.Path.{_≡_, refl, sym, _∙_}
-use mathlib.Core.Bool.{Bool, true, false, true≢false, cond, _&&_}
+use mathlib.Core.Bool.{Bool, true, false, true≢false, and-eq-true-iff, cond}
 use mathlib.Core.Option.{some}
 use mathlib.Core.List.{List, [], _∷_}
 use mathlib.Core.Logic.{_↔_, inl, inr}
 use native.Mathlib.Nat.{mod-lt}
 use native.Mathlib.Decide.{ℕ-discrete, decLe}
 use native.Mathlib.Omega.{arith}
-use lib.Dec.{leb, ltb, eqb}
+use lib.Dec.{eqb}
 use lib.ListN.{length, getD, drop}
 use lib.Seq.{getD-take, getD-drop}
 use borrow.Author.Tests.{leb-true, ltb-true, eqb-true, eqb-false, le-leb, lt-ltb, ne-eqb}
@@ -21,7 +21,7 @@ use Rattle.answer.specs.declared.Refusal.{Refusal}
 use Rattle.rules.specs.Metadata.{bitmapOf}
 use Rattle.rules.specs.Run.{Entry, HeapsOfLength, Event}
 use Rattle.rules.specs.Pair.{Pair, PairOff}
-use Rattle.rules.specs.Live.{Object, holding, ofClass, Sound, Counted, Never}
+use Rattle.rules.specs.Live.{Object, hasByte, holding, ofClass, Sound, Counted, Never}
 use Rattle.rules.specs.Wordings.{At, endOf, Has, having, inClass, Disjoint, SoundByPlaces, setSlots, CountedByLists, HeapsAllOf, NowhereIn, PairByPlaces}
 use Rattle.rules.proofs.Places.{at-nowhere, at-first, filter-counts, filter-some, filter-two, filter-one, those-more}
 
@@ -36,15 +36,10 @@ class-filter c (o ∷ os) =
     (filter-counts (λ (p : Object). ℕ-discrete (p .class) c) (eqb (o .class) c) o os (eqb-true (o .class) c) (eqb-false (o .class) c))
 
 module _ (G : Layout) where
-  has-test : (x : ℕ) (o : Object) → leb (o .start) x && ltb x (endOf G o) ≡ true → Has G x o
-  has-test x o = go (leb (o .start) x) (ltb x (endOf G o)) refl refl
-    where
-      go : (t u : Bool) → leb (o .start) x ≡ t → ltb x (endOf G o) ≡ u → t && u ≡ true → Has G x o
-      go true true e f h = (leb-true (o .start) x e, ltb-true x (endOf G o) f)
-      go true false e f h = absurd (true≢false (sym h))
-      go false u e f h = absurd (true≢false (sym h))
+  has-test : (x : ℕ) (o : Object) → hasByte G x o ≡ true → Has G x o
+  has-test x o e = let (l, u) = and-eq-true-iff _ _ .0 e in (leb-true (o .start) x l, ltb-true x (endOf G o) u)
 
-  lacks-test : (x : ℕ) (o : Object) → leb (o .start) x && ltb x (endOf G o) ≡ false → Has G x o → ⊥
+  lacks-test : (x : ℕ) (o : Object) → hasByte G x o ≡ false → Has G x o → ⊥
   lacks-test x o e (from, below) = true≢false (rw (le-leb (o .start) x from, lt-ltb x (endOf G o) below) at e)
 
   pub holding-filter : (x : ℕ) (os : List Object) → holding G x os ≡ length (having G x os)
@@ -52,7 +47,7 @@ module _ (G : Layout) where
   holding-filter x [] = refl
   holding-filter x (o ∷ os) = rw (holding-filter x os) (filter-counts _ _ o os (has-test x o) (lacks-test x o))
 
-  -- where a class has an object at half or below, its slots have bytes
+  -- an object of no bytes, as of a class past the last, would overlap nothing; but of such a class there are no slots to half-fill
   has-size : (os : List Object) → ((c : ℕ) → 2 * ofClass c os ≤ slots G c) → (i : ℕ) (o : Object) → At os i o → 0 < slotSize G (o .class)
   has-size os half i o e =
       let some : 1 ≤ length (inClass (o .class) os) = filter-some _ os i e refl in
