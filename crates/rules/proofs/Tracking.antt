@@ -3,6 +3,7 @@ use Prim.Native.Nat.{ℕ, zero, suc, _+_, _*_, _≤_, _<_}
 use mathlib.Core.Path.{_≡_, refl, sym, subst, _∙_}
 use mathlib.Core.List.{List, [], _∷_}
 use mathlib.Core.Logic.{Dec·and}
+use native.Mathlib.Nat.{le-trans}
 use native.Mathlib.Decide.{ℕ-discrete}
 use native.Mathlib.Omega.{arith}
 use borrow.Author.Tests.{eq-eqb, ne-eqb}
@@ -56,8 +57,8 @@ pub record Tracks (G : Layout) (m : List ℕ) (os : List Object) : Type 0 where
 pub tracks-sound : (G : Layout) (m : List ℕ) (os : List Object) → Tracks G m os → Sound G os
 tracks-sound G m os t =
     record {
-      apart = λ x. holding-one G _ os (t .are-slots) (λ c i h. omega (arith, t .bits c i h));
-      half = λ c. t .half _;
+      apart = λ x. le-trans (holding-one G _ os (t .are-slots) (λ c i h. omega (arith, t .bits c i h))) (omega arith);
+      half = λ c. le-trans (omega arith) (t .half _);
     }
 
 -- and counted
