@@ -52,12 +52,21 @@ module _ (G : Layout) where
       let some : 1 ≤ length (inClass (o .class) os) = filter-some _ os i e refl in
       slot-size-pos G (o .class) 0 (omega (arith, class-filter (o .class) os, half (o .class)))
 
-  -- objects of some bytes that both begin before the other ends share the later one's first
-  overlap : (o p : Object) → 0 < slotSize G (o .class) → 0 < slotSize G (p .class) → p .start < endOf G o → o .start < endOf G p
-      → (x : ℕ) × Has G x o × Has G x p
-  overlap o p h k l r = elim (decLe (o .start) (p .start)) [
-    | yes q ↦ (p .start, (omega arith, omega arith), (omega arith, omega arith))
-    | no q ↦ (o .start, (omega arith, omega arith), (omega arith, omega arith))
+  -- two objects that lie in one list and have byte x are two that hold it
+  two-hold : (os : List Object) (x i j : ℕ) (o p : Object) → i < j → At os i o → At os j p → Has G x o → Has G x p → 2 ≤ holding G x os
+  two-hold os x i j o p l e f h k = rw (holding-filter x os) (filter-two _ os i j l e f h k)
+
+  -- objects of some bytes that share none are disjoint: else the later one's first byte lies in both
+  none-shared : (o p : Object) → 0 < slotSize G (o .class) → 0 < slotSize G (p .class) → ((x : ℕ) → Has G x o → Has G x p → ⊥) → Disjoint G o p
+  none-shared o p h k none = elim (decLe (endOf G o) (p .start)) [
+    | yes q ↦ inl q
+    | no q ↦ elim (decLe (endOf G p) (o .start)) [
+      | yes r ↦ inr r
+      | no r ↦ elim (decLe (o .start) (p .start)) [
+        | yes l ↦ absurd (none (p .start) (omega arith, omega arith) (omega arith, omega arith))
+        | no l ↦ absurd (none (o .start) (omega arith, omega arith) (omega arith, omega arith))
+      ]
+    ]
   ]
 
   -- disjoint objects share none
@@ -71,17 +80,12 @@ module _ (G : Layout) where
       to : Sound G os → SoundByPlaces G os
       to s = record { apart = apart; half = λ c. omega (arith, class-filter c os, s .half c) }
         where
+          sized : (i : ℕ) (o : Object) → At os i o → 0 < slotSize G (o .class)
+          sized = has-size os (λ c. omega (arith, s .half c))
+
           apart : (i j : ℕ) (o p : Object) → i < j → At os i o → At os j p → Disjoint G o p
-          apart i j o p l e f = elim (decLe (endOf G o) (p .start)) [
-            | yes q ↦ inl q
-            | no q ↦ elim (decLe (endOf G p) (o .start)) [
-              | yes r ↦ inr r
-              | no r ↦
-                  let (x, h, k) = overlap o p (has-size os (s .half) i o e) (has-size os (s .half) j p f) (omega arith) (omega arith) in
-                  let two : 2 ≤ length (having G x os) = filter-two _ os i j l e f h k in
-                  absurd (omega (arith, holding-filter x os, s .apart x))
-            ]
-          ]
+          apart i j o p l e f =
+              none-shared o p (sized i o e) (sized j p f) (λ x h k. omega (arith, two-hold os x i j o p l e f h k, s .apart x))
 
       from : SoundByPlaces G os → Sound G os
       from s =
