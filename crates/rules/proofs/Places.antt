@@ -4,7 +4,7 @@ use mathlib.Core.Path.{_≡_, refl}
 use mathlib.Core.Bool.{Bool, true, false, cond}
 use mathlib.Core.Option.{none, some}
 use mathlib.Core.List.{List, [], _∷_, _++_, filter}
-use mathlib.Core.Logic.{_⊎_, inl, inr, ite}
+use mathlib.Core.Logic.{_↔_, _⊎_, inl, inr, ite}
 use native.Mathlib.Nat.{zero-add, suc-add, add-zero}
 use native.Mathlib.Omega.{arith}
 use lib.ListN.{length}
@@ -44,6 +44,18 @@ module _ {A : Type 0} where
       go : At xs i x ⊎ ((k : ℕ) × (i ≡ length xs + k) × At ys k x) → At xs i x ⊎ ((k : ℕ) × (suc i ≡ suc (length xs) + k) × At ys k x)
       go (inl f) = inl f
       go (inr (k, same, f)) = inr (k, omega arith, f)
+
+-- what holds of a list by its front and its rest holds at each place
+pub all-places : {A : Type 0} (P : A → Type 0) (All : List A → Type 0) → All [] → ((x : A) (xs : List A) → All (x ∷ xs) ↔ (P x × All xs))
+    → (xs : List A) → All xs ↔ ((i : ℕ) (x : A) → At xs i x → P x)
+all-places P All empty more [] = (λ h i x q. absurd (at-nowhere q), λ h. empty)
+all-places {A} P All empty more (y ∷ xs) =
+    let (there, back) = all-places P All empty more xs in
+    (λ h. to (more y xs .0 h .0) (there (more y xs .0 h .1)), λ h. more y xs .1 (h 0 y refl, back (λ i. h (suc i))))
+  where
+    to : P y → ((i : ℕ) (x : A) → At xs i x → P x) → (i : ℕ) (x : A) → At (y ∷ xs) i x → P x
+    to h rest zero x q = rw (← at-first q) h
+    to h rest (suc i) x q = rest i x q
 
 -- ---- filters
 

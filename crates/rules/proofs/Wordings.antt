@@ -3,7 +3,7 @@ use Prim.Native.Nat.{ℕ, zero, suc, _+_, _*_, _/_, _%_, _^_, _≤_, _<_}
 use mathlib.Core.Path.{_≡_, refl, sym, _∙_}
 use mathlib.Core.Bool.{Bool, true, false, true≢false, and-eq-true-iff, cond}
 use mathlib.Core.List.{List, [], _∷_}
-use mathlib.Core.Logic.{_↔_, inl, inr}
+use mathlib.Core.Logic.{_↔_, Iff·rfl, inl, inr}
 use native.Mathlib.Nat.{mod-lt}
 use native.Mathlib.Decide.{ℕ-discrete, decLe}
 use native.Mathlib.Omega.{arith}
@@ -17,12 +17,13 @@ use Rattle.geometry.specs.Layout.{slotSize, slots, bitmapAt, bitmapLength}
 use Rattle.geometry.proofs.Slots.{slot-size-pos}
 use Rattle.bitmap.specs.Bitmap.{bit, countSet}
 use Rattle.answer.specs.declared.Refusal.{Refusal}
+use Rattle.answer.specs.Reply.{numberOf}
 use Rattle.rules.specs.Metadata.{bitmapOf}
 use Rattle.rules.specs.Run.{Entry, HeapsOfLength, Event}
 use Rattle.rules.specs.Pair.{Pair, PairOff}
 use Rattle.rules.specs.Live.{Object, hasByte, holding, ofClass, Sound, Counted, Never}
 use Rattle.rules.specs.Wordings.{At, endOf, Has, having, inClass, Disjoint, SoundByPlaces, setSlots, CountedByLists, HeapsAllOf, NowhereIn, PairByPlaces}
-use Rattle.rules.proofs.Places.{at-nowhere, at-first, filter-counts, filter-some, filter-two, filter-one, those-more}
+use Rattle.rules.proofs.Places.{at-nowhere, at-first, all-places, filter-counts, filter-some, filter-two, filter-one, those-more}
 
 -- ---- objects
 
@@ -129,20 +130,10 @@ module _ (G : Layout) (m : List ℕ) where
 -- ---- runs
 
 pub heaps-places : (n : ℕ) (es : List Entry) → HeapsOfLength n es ↔ HeapsAllOf n es
-heaps-places n [] = (λ h i e at. absurd (at-nowhere at), λ h. tt)
-heaps-places n (e ∷ es) = (to (heaps-places n es .0), λ h. (h 0 e refl, heaps-places n es .1 (λ i. h (suc i))))
-  where
-    to : (HeapsOfLength n es → HeapsAllOf n es) → HeapsOfLength n (e ∷ es) → HeapsAllOf n (e ∷ es)
-    to rest (h, hs) zero f at = rw (← at-first at) h
-    to rest (h, hs) (suc i) f at = rest hs i f at
+heaps-places n = all-places (λ e. length (e .heap) ≡ n) (HeapsOfLength n) tt (λ e es. Iff·rfl)
 
 pub never-places : (r : Refusal) (past : List Event) → Never r past ↔ NowhereIn r past
-never-places r [] = (λ h i a at. absurd (at-nowhere at), λ h. tt)
-never-places r (a ∷ past) = (to (never-places r past .0), λ h. (h 0 a refl, never-places r past .1 (λ i. h (suc i))))
-  where
-    to : (Never r past → NowhereIn r past) → Never r (a ∷ past) → NowhereIn r (a ∷ past)
-    to rest (n, ns) zero b at = rw (← at-first at) n
-    to rest (n, ns) (suc i) b at = rest ns i b at
+never-places r = all-places (λ a. a .answer .number ≡ numberOf r → ⊥) (Never r) tt (λ a past. Iff·rfl)
 
 module _ (G : Layout) where
   pub pair-places : (past other : List Event) → PairOff G past other ↔ PairByPlaces G past other
