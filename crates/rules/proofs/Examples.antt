@@ -1,68 +1,74 @@
--- Examples of the words that the theorems are made of: what they hold of, and near misses of which they do not hold.
-use Prim.Native.Nat.{ℕ, _+_, _*_, _≤_, _<_}
-use mathlib.Core.Path.{_≡_, refl, sym, subst, _∙_}
-use mathlib.Core.Bool.{Bool, true, false, true≢false, cond, _&&_, and-false}
+-- Examples of the words that the theorems are made of, of objects and counts: what they hold of, and near misses of which
+-- they do not hold. Those of runs are in RunExamples.antt.
+use Prim.Native.Nat.{ℕ, zero, suc, _+_, _*_, _/_, _≤_, _<_}
+use mathlib.Core.Path.{_≡_, refl, sym, subst}
+use mathlib.Core.Bool.{true≢false, not}
 use mathlib.Core.List.{List, [], _∷_}
+use mathlib.Core.Logic.{inl}
 use native.Mathlib.Decide.{ℕ-discrete}
 use native.Mathlib.Omega.{arith}
-use lib.Dec.{leb, ltb, eqb}
-use lib.ListN.{set, replicate}
+use lib.Dec.{eqb}
+use lib.ListN.{length, set, replicate}
 use lib.Seq.{getD-set-other}
-use borrow.Author.Tests.{ltb-true, lt-leb, eq-eqb, ne-eqb}
+use borrow.Author.Tests.{eq-eqb, ne-eqb, eqb-true, not-false}
 use Rattle.search.specs.First.{first}
+use Rattle.search.proofs.First.{first-before}
 use Rattle.geometry.specs.declared.Layout.{Layout}
-use Rattle.geometry.specs.Layout.{layoutOf, classes, classOf, slotSize, slots, header, bitmapAt}
+use Rattle.geometry.specs.Layout.{layoutOf, classes, slotSize, slots, slotStart, header, bitmapAt, metadataLength}
 use Rattle.bitmap.specs.Bitmap.{countSet, nextClear}
-use Rattle.request.specs.declared.Request.{Request}
-use Rattle.request.specs.declared.Request.the-variants.{Allocate, Free, Remaining, Copy, Read}
-use Rattle.request.specs.declared.Kind.the-variants.{Bytes}
-use Rattle.request.specs.declared.Parsed.{Parsed}
-use Rattle.request.specs.declared.Parsed.the-variants.{Whole, Malformed}
-use Rattle.answer.specs.declared.Refusal.the-variants.{CorruptMetadata}
-use Rattle.rules.specs.Metadata.{countOf, bitmapOf}
+use Rattle.rules.specs.Metadata.{countAt, countOf, bitmapOf}
 use Rattle.rules.specs.Open.{Setup, fresh}
 use Rattle.rules.specs.Allocate.{probe, draws}
-use Rattle.rules.specs.Run.{Event}
-use Rattle.rules.specs.Pair.{Measures, Pair, allocations, frees, measurings, refusals}
-use Rattle.rules.specs.Live.{Object, without, objectsAfter, live, holding, ofClass, Sound, Counted, Never}
+use Rattle.rules.specs.Live.{Object, holding, ofClass, Sound, Counted}
 use Rattle.rules.specs.Inspect.{ClearAlike}
+use Rattle.rules.specs.Wordings.{At, inClass, Disjoint}
+use Rattle.rules.proofs.Places.{at-nowhere, at-first}
+use Rattle.rules.proofs.Wordings.{class-filter, sound-places}
 use Rattle.rules.proofs.Tracking.{tracks-counted, fresh-tracks}
 
--- a heap with regions of 1,024 bytes: class 0 has 128 slots of 8 bytes, class 5 has 4 of 256
-abbrev G : Layout
+-- a heap with regions of 1,024 bytes: class 0 has 128 slots of 8 bytes, class 5 has 4 of 256, and class 7 is the last with a slot
+abbrev pub G : Layout
 G = layoutOf (classes * 1024)
 
-abbrev object : ℕ → ℕ → Object
+-- one with regions of 32,768 bytes: class 10 has 4 slots of 8,192 bytes, and class 11, the last, has 2 of 16,384
+abbrev pub H : Layout
+H = layoutOf (classes * 32_768)
+
+abbrev pub object : ℕ → ℕ → Object
 object start class = record { start = start; class = class }
 
--- ---- sound
+-- slot i of class c, live
+abbrev pub slotObject : Layout → ℕ → ℕ → Object
+slotObject F c i = object (slotStart F c i) c
 
-at-most-one : (t : Bool) → cond t 1 0 ≤ 1
-at-most-one true = omega arith
-at-most-one false = omega arith
+-- ---- sound
 
 -- two objects of a class with four slots or more, the second from the end of the first on
 module _ (G : Layout) (a b c : ℕ) (above : a + slotSize G c ≤ b) (room : 4 ≤ slots G c) where
   two : List Object
   two = object a c ∷ object b c ∷ []
 
-  two-apart : (x : ℕ) (t : Bool) → ltb x (a + slotSize G c) ≡ t → holding G x two ≤ 1
-  unfolding holding two
-  two-apart x true e =
-      let h : leb b x ≡ false = lt-leb b x (omega (arith, ltb-true x (a + slotSize G c) e)) in
-      rw (e, h) (omega (arith, at-most-one (leb a x && true)))
-  two-apart x false e = rw (e, and-false (leb a x)) (omega (arith, at-most-one (leb b x && ltb x (b + slotSize G c))))
+  two-apart : (i j : ℕ) (o p : Object) → i < j → At two i o → At two j p → Disjoint G o p
+  unfolding two
+  two-apart i zero o p l e f = absurd (omega arith)
+  two-apart zero (suc zero) o p l e f = rw (← at-first e, ← at-first f) (inl above)
+  two-apart (suc i) (suc zero) o p l e f = absurd (omega arith)
+  two-apart i (suc (suc j)) o p l e f = absurd (at-nowhere f)
 
-  two-half : (d : ℕ) → 2 * ofClass d two ≤ slots G d
+  two-half : (d : ℕ) → length (inClass d two) ≤ slots G d / 2
   unfolding ofClass two
   two-half d = elim (ℕ-discrete c d) [
-    | yes e ↦ rw (eq-eqb c d e) (subst (λ n. 4 ≤ slots G n) e room)
-    | no n ↦ rw (ne-eqb c d n) (omega arith)
+    | yes e ↦
+        let half : ofClass d two ≡ 2 = rw (eq-eqb c d e) refl in
+        let many : 4 ≤ slots G d = subst (λ n. 4 ≤ slots G n) e room in
+        omega (arith, class-filter d two)
+    | no n ↦
+        let none : ofClass d two ≡ 0 = rw (ne-eqb c d n) refl in
+        omega (arith, class-filter d two)
   ]
 
   two-sound : Sound G two
-  two-sound =
-      record { apart = λ x. omega (arith, two-apart x (ltb x (a + slotSize G c)) refl); half = λ d. omega (arith, two-half d) }
+  two-sound = sound-places G two .1 (record { apart = two-apart; half = two-half })
 
 -- neighbours are sound, and two objects that share a byte, the last of the first, are not
 neighbours : Sound G (object 0 0 ∷ object 8 0 ∷ [])
@@ -82,113 +88,28 @@ over-half-full : Sound G (object 5120 5 ∷ object 5376 5 ∷ object 5632 5 ∷ 
 unfolding ofClass slotSize first
 over-half-full s = omega (arith, s .half 5)
 
--- ---- live objects
+-- in a large class too
+large-half-full : Sound H (slotObject H 10 0 ∷ slotObject H 10 1 ∷ [])
+unfolding two slotSize first
+large-half-full = two-sound H (slotStart H 10 0) (slotStart H 10 1) 10 (omega arith) (omega arith)
 
-abbrev event : Request → ℕ → ℕ → Event
-event q number value = record { asked = Whole q; answer = record { number = number; value = value } }
+-- near misses: both slots of the last class; objects that share a byte 16,383 bytes into one; and objects of two classes that share one, also
+-- where another stands between them
+last-over-half : Sound H (slotObject H 11 0 ∷ slotObject H 11 1 ∷ []) → ⊥
+unfolding ofClass slotSize first
+last-over-half s = omega (arith, s .half 11)
 
--- a free ends an object, and the next allocation there makes another; a refused free and a measuring change nothing
-live-then-freed : live G [] (event (Allocate 5) 0 640 ∷ event (Free 640) 0 8 ∷ []) ≡ []
-unfolding live objectsAfter without first slotSize
-live-then-freed = refl
+far-byte-shared : Sound H (slotObject H 11 0 ∷ object (slotStart H 11 0 + 16_383) 11 ∷ []) → ⊥
+unfolding holding slotSize first
+far-byte-shared s = omega (arith, s .apart (slotStart H 11 0 + 16_383))
 
-live-again : live G [] (event (Allocate 5) 0 640 ∷ event (Free 640) 0 8 ∷ event (Allocate 8) 0 640 ∷ []) ≡ object 640 0 ∷ []
-unfolding live objectsAfter without first slotSize
-live-again = refl
+two-classes-overlap : Sound G (object 5120 5 ∷ object 5375 0 ∷ []) → ⊥
+unfolding holding slotSize first
+two-classes-overlap s = omega (arith, s .apart 5375)
 
-still-live : live G [] (event (Allocate 5) 0 640 ∷ event (Free 640) 10 0 ∷ event (Remaining 640) 0 8 ∷ []) ≡ object 640 0 ∷ []
-unfolding live objectsAfter without first slotSize
-still-live = refl
-
--- an allocation of nothing makes an object as any other of class 0 does
-live-of-nothing : live G [] (event (Allocate 0) 0 640 ∷ []) ≡ object 640 0 ∷ []
-unfolding live objectsAfter first slotSize
-live-of-nothing = refl
-
--- ---- pairs
-
-one-class : Pair G (event (Allocate 5) 0 640) (event (Allocate 8) 0 640)
-unfolding first slotSize
-one-class = allocations 5 8 refl refl refl refl refl
-
--- an allocation of nothing pairs with any of class 0
-nothing-in-class-0 : (s : ℕ) → classOf G s ≡ 0 → Pair G (event (Allocate 0) 0 640) (event (Allocate s) 0 640)
-unfolding first slotSize
-nothing-in-class-0 s e = allocations 0 s refl refl (sym e) refl refl
-
-one-offset : Pair G (event (Free 640) 0 8) (event (Free 640) 0 8)
-one-offset = frees 640 refl refl refl refl
-
-one-value : Pair G (event (Remaining 643) 0 5) (event (Copy 1027 Bytes) 0 5)
-one-value = measurings (Remaining 643) (Copy 1027 Bytes) refl refl tt tt refl refl refl
-
-read-and-measured : Pair G (event (Read 643 9) 0 5) (event (Remaining 643) 0 5)
-read-and-measured = measurings (Read 643 9) (Remaining 643) refl refl tt tt refl refl refl
-
-one-number : Pair G (event (Free 640) 8 0) (event (Remaining 4) 8 0)
-one-number = refusals (λ e. omega (arith, e)) refl
-
--- what the requests of a pair share: the class, the offset, the value, or the number
-shares : Layout → Parsed → ℕ → List ℕ
-shares G (Whole (Allocate size)) value = 0 ∷ classOf G size ∷ []
-shares G (Whole (Free offset)) value = 1 ∷ offset ∷ []
-shares G (Whole (Remaining offset)) value = 2 ∷ value ∷ []
-shares G (Whole (Copy offset kind)) value = 2 ∷ value ∷ []
-shares G (Whole (Read offset count)) value = 2 ∷ value ∷ []
-shares G Malformed value = []
-
-shared : Layout → Event → List ℕ
-shared G a = cond (eqb (a .answer .number) 0) (shares G (a .asked) (a .answer .value)) (3 ∷ a .answer .number ∷ [])
-
-measuring-shares : (G : Layout) (q : Request) (value : ℕ) → Measures q → shares G (Whole q) value ≡ 2 ∷ value ∷ []
-unfolding shares
-measuring-shares G (Allocate size) value h = absurd h
-measuring-shares G (Free offset) value h = absurd h
-measuring-shares G (Remaining offset) value h = refl
-measuring-shares G (Copy offset kind) value h = refl
-measuring-shares G (Read offset count) value h = refl
-
-pair-shares : {G : Layout} {a b : Event} → Pair G a b → shared G a ≡ shared G b
-unfolding shared shares
-pair-shares {G} {a} {b} (allocations s t e f c h k) = rw (h, k, e, f, shares, c)
-pair-shares {G} {a} {b} (frees offset e f h k) = rw (h, k, e, f)
-pair-shares {G} {a} {b} (measurings q r e f p o h k v) = rw (h, k, e, f, measuring-shares G q _ p, measuring-shares G r _ o, v)
-pair-shares {G} {a} {b} (refusals h e) =
-    let k : b .answer .number ≡ 0 → ⊥ = λ z. h (e ∙ z) in
-    rw (ne-eqb (a .answer .number) 0 h, ne-eqb (b .answer .number) 0 k, e)
-
--- so what shares none of these is no pair
-two-classes : Pair G (event (Allocate 8) 0 640) (event (Allocate 9) 0 640) → ⊥
-unfolding shared shares first slotSize
-two-classes p = let e : _≡_ {A = ℕ} 0 1 = cc (pair-shares p) in omega arith
-
-nothing-and-nine : Pair G (event (Allocate 0) 0 640) (event (Allocate 9) 0 640) → ⊥
-unfolding shared shares first slotSize
-nothing-and-nine p = let e : _≡_ {A = ℕ} 0 1 = cc (pair-shares p) in omega arith
-
-two-offsets : Pair G (event (Free 640) 0 8) (event (Free 648) 0 8) → ⊥
-unfolding shared shares
-two-offsets p = let e : _≡_ {A = ℕ} 640 648 = cc (pair-shares p) in omega arith
-
-two-values : Pair G (event (Remaining 643) 0 5) (event (Remaining 642) 0 6) → ⊥
-unfolding shared shares
-two-values p = let e : _≡_ {A = ℕ} 5 6 = cc (pair-shares p) in omega arith
-
-two-read-values : Pair G (event (Read 643 9) 0 5) (event (Read 643 4) 0 4) → ⊥
-unfolding shared shares
-two-read-values p = let e : _≡_ {A = ℕ} 5 4 = cc (pair-shares p) in omega arith
-
-two-numbers : Pair G (event (Free 641) 9 0) (event (Free 640) 10 0) → ⊥
-unfolding shared shares
-two-numbers p = let e : _≡_ {A = ℕ} 9 10 = cc (pair-shares p) in omega arith
-
-served-and-refused : Pair G (event (Free 640) 0 8) (event (Free 640) 10 0) → ⊥
-unfolding shared shares
-served-and-refused p = let e : _≡_ {A = ℕ} 1 3 = cc (pair-shares p) in omega arith
-
-two-kinds : Pair G (event (Allocate 5) 0 0) (event (Remaining 0) 0 0) → ⊥
-unfolding shared shares first slotSize
-two-kinds p = let e : _≡_ {A = ℕ} 0 2 = cc (pair-shares p) in omega arith
+first-and-third : Sound G (object 5120 5 ∷ object 5376 5 ∷ object 5375 0 ∷ []) → ⊥
+unfolding holding slotSize first
+first-and-third s = omega (arith, s .apart 5375)
 
 -- ---- counts
 
@@ -219,15 +140,46 @@ one-in-the-last : Counted G (counting 0 0 1) [] → ⊥
 unfolding ofClass
 one-in-the-last k = let e : _≡_ {A = ℕ} 1 0 = k .objects 11 (omega arith) in omega arith
 
--- a history with other refusals than one, and histories that have it first and last
-never-refused : Never CorruptMetadata (event (Free 640) 10 0 ∷ event (Allocate 5) 0 640 ∷ [])
-never-refused = (λ e. omega (arith, e), (λ e. omega (arith, e), tt))
+-- ---- counts of every class
 
-refused-first : Never CorruptMetadata (event (Free 640) 13 0 ∷ event (Allocate 5) 0 640 ∷ []) → ⊥
-refused-first n = n .0 refl
+-- metadata that count so many in class c, and the first byte of whose bitmap for c is given
+abbrev counts : Layout → ℕ → ℕ → ℕ → List ℕ
+counts F c count byte = set (set (replicate (metadataLength F) 0) (countAt c) count) (bitmapAt F c) byte
 
-refused-last : Never CorruptMetadata (event (Allocate 5) 0 640 ∷ event (Free 640) 13 0 ∷ []) → ⊥
-refused-last n = n .1 .0 refl
+-- a check of each class is one computation
+each-class : (f g : ℕ → ℕ) → first (λ c. not (eqb (f c) (g c))) 0 classes ≡ classes → (c : ℕ) → c < classes → f c ≡ g c
+each-class f g all c l =
+    eqb-true (f c) (g c) (not-false (eqb (f c) (g c)) (first-before (λ d. not (eqb (f d) (g d))) 0 classes c (omega arith) (omega arith)))
+
+-- the last slot of the last class is live alone, and so is class 7's only slot on a small heap, where bit 1 of its byte is of no slot
+last-counted : Counted H (counts H 11 1 2) (slotObject H 11 1 ∷ [])
+unfolding countSet bitmapAt slotSize first ofClass
+last-counted = record { set = each-class _ _ refl; objects = each-class _ _ refl }
+
+only-counted : Counted G (counts G 7 1 3) (slotObject G 7 0 ∷ [])
+unfolding countSet bitmapAt slotSize first ofClass
+only-counted = record { set = each-class _ _ refl; objects = each-class _ _ refl }
+
+-- near misses: counted and live but not set, in either; counted and set but not live; set and live but not counted; live in another class
+last-not-set : Counted H (counts H 11 1 4) (slotObject H 11 1 ∷ []) → ⊥
+unfolding countSet bitmapAt slotSize first
+last-not-set k = let e : _≡_ {A = ℕ} 1 0 = k .set 11 (omega arith) in omega arith
+
+only-not-set : Counted G (counts G 7 1 2) (slotObject G 7 0 ∷ []) → ⊥
+unfolding countSet bitmapAt slotSize first
+only-not-set k = let e : _≡_ {A = ℕ} 1 0 = k .set 7 (omega arith) in omega arith
+
+last-not-live : Counted H (counts H 11 1 2) [] → ⊥
+unfolding ofClass bitmapAt slotSize first
+last-not-live k = let e : _≡_ {A = ℕ} 1 0 = k .objects 11 (omega arith) in omega arith
+
+last-not-counted : Counted H (counts H 11 0 2) (slotObject H 11 1 ∷ []) → ⊥
+unfolding ofClass bitmapAt slotSize first
+last-not-counted k = let e : _≡_ {A = ℕ} 0 1 = k .objects 11 (omega arith) in omega arith
+
+live-elsewhere : Counted H (counts H 11 1 2) (slotObject H 10 1 ∷ []) → ⊥
+unfolding ofClass bitmapAt slotSize first
+live-elsewhere k = let e : _≡_ {A = ℕ} 1 0 = k .objects 11 (omega arith) in omega arith
 
 -- ---- the same bytes in clear slots
 

@@ -18,6 +18,12 @@ pub mod Runs
 pub mod Drawing
 pub mod Inspecting
 pub mod Clean
+pub mod Places
+pub mod Wordings
+pub mod Traits
+pub mod Lasting
+pub mod Restated
 pub mod Examples
 pub mod Changing
 pub mod ChangingExamples
+pub mod RunExamples

@@ -7,8 +7,8 @@ use native.Mathlib.Omega.{arith}
 use lib.Dec.{leb, ltb, eqb}
 use borrow.Author.Tests.{leb-true, ltb-true, eqb-true, eq-eqb, ne-eqb}
 use Rattle.geometry.specs.declared.Layout.{Layout}
-use Rattle.geometry.specs.Layout.{slotSize, slots, slotStart, locate}
-use Rattle.rules.specs.Live.{Object, without, holding, ofClass}
+use Rattle.geometry.specs.Layout.{slots, slotStart, locate}
+use Rattle.rules.specs.Live.{Object, without, sizeOf, hasByte, holding, ofClass}
 use Rattle.geometry.proofs.Slots.{slot-located, slot-size-pos}
 
 -- an object is a slot of its class
@@ -30,7 +30,7 @@ starting c x (o ∷ os) = cond (eqb (o .start) x && eqb (o .class) c) 1 0 + star
 
 module _ (x : ℕ) where
   -- the first object starts at x and goes, or stays
-  without-cons : (o : Object) (os : List Object) (P : List Object → Type 0)
+  pub without-cons : (o : Object) (os : List Object) (P : List Object → Type 0)
       → (eqb (o .start) x ≡ true → P (without x os)) → (eqb (o .start) x ≡ false → P (o ∷ without x os)) → P (without x (o ∷ os))
   unfolding without
   without-cons o os P f g = go (eqb (o .start) x) refl
@@ -105,16 +105,17 @@ module _ (G : Layout) where
   module _ (x : ℕ) where
     -- an object does not have byte x, or x is located in it
     has-byte : (o : Object) (s : IsSlot G o) (P : ℕ → Type 0) → P 0 → (locate G x .class ≡ o .class → locate G x .slot ≡ s .slot → P 1)
-        → P (cond (leb (o .start) x && ltb x (o .start + slotSize G (o .class))) 1 0)
-    has-byte o s P f g = go (leb (o .start) x) (ltb x (o .start + slotSize G (o .class))) refl refl
+        → P (cond (hasByte G x o) 1 0)
+    has-byte o s P f g = go (leb (o .start) x) (ltb x (o .start + sizeOf G o)) refl refl
       where
-        go : (t u : Bool) → leb (o .start) x ≡ t → ltb x (o .start + slotSize G (o .class)) ≡ u → P (cond (t && u) 1 0)
+        go : (t u : Bool) → leb (o .start) x ≡ t → ltb x (o .start + sizeOf G o) ≡ u → P (cond (t && u) 1 0)
         go false u e k = f
         go true false e k = f
         go true true e k =
-            let from = rw (s .starts) at (leb-true (o .start) x e) in
-            let below = rw (s .starts) at (ltb-true x (o .start + slotSize G (o .class)) k) in
-            let (class, slot) = slot-located G (o .class) (s .slot) x (s .within) from below in
+            let from = leb-true (o .start) x e in
+            let below = ltb-true x (o .start + sizeOf G o) k in
+            let some = slot-size-pos G (o .class) (s .slot) (s .within) in
+            let (class, slot) = slot-located G (o .class) (s .slot) x (s .within) (omega arith) (omega arith) in
             g class slot
 
     -- the objects that have byte x start where it is located

@@ -91,8 +91,9 @@ module _ (n : ℕ) (region : regionOf n ≡ 0 → ⊥) where
   runs-sane (e ∷ es) (h, hs) m valid os t =
       (step-sane m valid e h os t, runs-sane es hs _ (step-valid m valid e h) _ (step-tracks m valid e h os t))
 
--- On metadata of any earlier bytes, each just opened, with the same seeds on the same heap length: the traces of two runs are equal exactly
--- when their histories pair off; and in both, after every number of requests, no byte lies in two live objects and no class is over half full.
+-- On metadata of any earlier bytes, each just opened with the same seeds and the same canary for heaps of one length: the traces of two runs
+-- are equal exactly when their histories pair off; and in both, after every number of requests, no byte lies in two live objects and no class
+-- is over half full.
 pub indistinguishable : (heapBytes : ℕ) (s : Setup) (m m′ : List ℕ)
     → opening heapBytes m s .answer .number ≡ 0 → opening heapBytes m′ s .answer .number ≡ 0
     → (es fs : List Entry) → length es ≡ length fs → HeapsOfLength heapBytes es → HeapsOfLength heapBytes fs

@@ -3,6 +3,7 @@ use Prim.Native.Nat.{ℕ, zero, suc, _+_, _*_, _≤_, _<_}
 use mathlib.Core.Path.{_≡_, refl, sym, subst, _∙_}
 use mathlib.Core.List.{List, [], _∷_}
 use mathlib.Core.Logic.{Dec·and}
+use native.Mathlib.Nat.{le-trans}
 use native.Mathlib.Decide.{ℕ-discrete}
 use native.Mathlib.Omega.{arith}
 use borrow.Author.Tests.{eq-eqb, ne-eqb}
@@ -56,13 +57,13 @@ pub record Tracks (G : Layout) (m : List ℕ) (os : List Object) : Type 0 where
 pub tracks-sound : (G : Layout) (m : List ℕ) (os : List Object) → Tracks G m os → Sound G os
 tracks-sound G m os t =
     record {
-      apart = λ x. omega (arith, holding-one G x os (t .are-slots) (λ c i h. omega (arith, t .bits c i h)));
-      half = λ c. omega (arith, t .half c);
+      apart = λ x. le-trans (holding-one G _ os (t .are-slots) (λ c i h. omega (arith, t .bits c i h))) (omega arith);
+      half = λ c. le-trans (omega arith) (t .half _);
     }
 
 -- and counted
 pub tracks-counted : (G : Layout) (m : List ℕ) (os : List Object) → Tracks G m os → Counted G m os
-tracks-counted G m os t = record { set = λ c h. t .counted c h ∙ t .bits-set c; objects = t .counted }
+tracks-counted G m os t = record { set = λ c h. t .counted c (omega arith) ∙ t .bits-set c; objects = t .counted }
 
 -- of clear bits none is counted
 count-none : (b : List ℕ) (n : ℕ) → ((i : ℕ) → bit b i ≡ 0) → 0 ≡ countSet b n

@@ -12,5 +12,6 @@ pub mod Call
 pub mod Run
 pub mod Pair
 pub mod Live
+pub mod Wordings
 pub mod Inspect
 pub mod Changing

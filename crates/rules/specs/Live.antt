@@ -1,7 +1,7 @@
 -- Live objects, from requests and answers alone.
 use Prim.Native.Nat.{ℕ, _+_, _*_, _≤_, _<_}
 use mathlib.Core.Path.{_≡_}
-use mathlib.Core.Bool.{true, false, cond, _&&_}
+use mathlib.Core.Bool.{Bool, true, false, cond, _&&_}
 use mathlib.Core.List.{List, [], _∷_}
 use lib.Dec.{leb, ltb, eqb}
 use Rattle.request.specs.declared.Request.the-variants.{Allocate, Free, Remaining, Copy, Read}
@@ -42,10 +42,16 @@ unfoldable pub live : Layout → List Object → List Event → List Object
 live G os [] = os
 live G os (a ∷ rest) = live G (objectsAfter G os a) rest
 
--- how many objects have byte x, and how many are of class c
+abbrev pub sizeOf : Layout → Object → ℕ
+sizeOf G o = slotSize G (o .class)
+
+-- whether byte x lies in an object, how many objects have it, and how many are of class c
+abbrev pub hasByte : Layout → ℕ → Object → Bool
+hasByte G x o = leb (o .start) x && ltb x (o .start + sizeOf G o)
+
 unfoldable pub holding : Layout → ℕ → List Object → ℕ
 holding G x [] = 0
-holding G x (o ∷ os) = cond (leb (o .start) x && ltb x (o .start + slotSize G (o .class))) 1 0 + holding G x os
+holding G x (o ∷ os) = cond (hasByte G x o) 1 0 + holding G x os
 
 unfoldable pub ofClass : ℕ → List Object → ℕ
 ofClass c [] = 0
