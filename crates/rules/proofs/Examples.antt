@@ -25,7 +25,6 @@ use Rattle.rules.specs.Allocate.{probe, draws}
 use Rattle.rules.specs.Run.{Event}
 use Rattle.rules.specs.Pair.{Measures, Pair, allocations, frees, measurings, refusals}
 use Rattle.rules.specs.Live.{Object, without, objectsAfter, live, holding, ofClass, Sound, Counted, Never}
-use Rattle.rules.specs.Inspect.{ClearAlike}
 use Rattle.rules.proofs.Tracking.{tracks-counted, fresh-tracks}
 
 -- a heap with regions of 1,024 bytes: class 0 has 128 slots of 8 bytes, class 5 has 4 of 256
@@ -228,33 +227,6 @@ refused-first n = n .0 refl
 
 refused-last : Never CorruptMetadata (event (Allocate 5) 0 640 ∷ event (Free 640) 13 0 ∷ []) → ⊥
 refused-last n = n .1 .0 refl
-
--- ---- the same bytes in clear slots
-
--- slot 0 of class 0 is live and slot 1 is not; a region of 1,024 bytes has no slot of class 8, from 8,192 on
-abbrev oneLive : List ℕ
-oneLive = counting 1 1 0
-
--- a heap with itself, with a byte changed in the live slot, and with one changed in no slot
-alike-self : (F : Layout) (m h : List ℕ) → ClearAlike F m h h
-alike-self F m h x some clear = refl
-
-alike-but-live : (h : List ℕ) (v : ℕ) → ClearAlike G oneLive h (set h 7 v)
-unfolding bitmapAt slotSize first
-alike-but-live h v x some clear = sym (getD-set-other h 7 x v 0 (λ e. true≢false (rw e at clear)))
-
-alike-but-outside : (h : List ℕ) (v : ℕ) → ClearAlike G oneLive h (set h 8_192 v)
-unfolding slotSize first
-alike-but-outside h v x some clear = sym (getD-set-other h 8_192 x v 0 (λ e. let none : 0 < 0 = rw e at some in omega arith))
-
--- near misses: a byte of a clear slot, its first and its last
-not-alike : ClearAlike G oneLive (replicate 16 0) (set (replicate 16 0) 8 1) → ⊥
-unfolding bitmapAt slotSize first
-not-alike same = let e : _≡_ {A = ℕ} 0 1 = same 8 (omega arith) refl in omega arith
-
-not-alike-last : ClearAlike G oneLive (replicate 16 0) (set (replicate 16 0) 15 1) → ⊥
-unfolding bitmapAt slotSize first
-not-alike-last same = let e : _≡_ {A = ℕ} 0 1 = same 15 (omega arith) refl in omega arith
 
 -- ---- the limit of draws
 

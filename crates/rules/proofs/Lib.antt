@@ -15,6 +15,10 @@ pub mod Tracking
 pub mod Sane
 pub mod Runs
 pub mod Drawing
+pub mod Damage
+pub mod Alike
 pub mod Inspecting
+pub mod Undisturbed
 pub mod Clean
 pub mod Examples
+pub mod InspectingExamples

@@ -13,3 +13,4 @@ pub mod Run
 pub mod Pair
 pub mod Live
 pub mod Inspect
+pub mod Inspected

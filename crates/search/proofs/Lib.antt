@@ -1,4 +1,5 @@
 pub mod First
 pub mod Those
+pub mod Rising
 pub mod Blocks
 pub mod Tabulate
