@@ -143,10 +143,10 @@ module _ (G : Layout) (m h : List ℕ) where
         let test = isHit G m h in
         record {
           exactly = λ x. (
-            λ listed. hit-damaged x (those-passes test 0 (heapLength G) x listed .2),
-            λ d. those-member test 0 (heapLength G) x (omega arith) (omega (arith, damaged-inside x d)) (damaged-hit x d),
+            λ listed. hit-damaged x (those-passes test 0 _ x listed .2),
+            λ d. those-member test 0 _ x (omega arith) (omega (arith, damaged-inside x d)) (damaged-hit x d),
           );
-          rising = those-rising test 0 (heapLength G);
+          rising = those-rising test 0 _;
         }
 
   -- there is but one such list

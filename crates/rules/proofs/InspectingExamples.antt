@@ -106,24 +106,12 @@ copying = (requestBytes 3 640 0, lent (7 ∷ 8 ∷ 9 ∷ []))
 abbrev reading : List ℕ × Lent
 reading = (requestBytes 6 100 2, lentWith [] (4 ∷ 5 ∷ []))
 
--- bytes 639 to 643 of the heap, and what of the metadata comes after the generator
-abbrev leaves : List (List ℕ × Lent) → List ℕ → List ℕ → Type 0
-leaves asked bytes fields =
-    let s = undisturbed blank asked in
-    (take 5 (drop 639 (s .heap)) ≡ bytes) × (drop countsAt (s .metadata) ≡ fields)
-
--- an object of class 0 is counted, and its bit is set
-abbrev placed : List ℕ
-placed = 1 ∷ replicate 61 0 ++ (1 ∷ replicate 23 0)
-
--- none, and one; a second, which is a copy from the source beside it, also with a read between them; and the copy first, where no object is yet
-in-order : leaves [] (replicate 5 0) (replicate 86 0)
-    × leaves (allocating ∷ []) (replicate 5 0) placed
-    × leaves (allocating ∷ copying ∷ []) (0 ∷ 7 ∷ 8 ∷ 9 ∷ 0 ∷ []) placed
-    × leaves (allocating ∷ reading ∷ copying ∷ []) (0 ∷ 7 ∷ 8 ∷ 9 ∷ 0 ∷ []) placed
-    × leaves (copying ∷ allocating ∷ []) (replicate 5 0) placed
+-- an object is placed, a page read, and three bytes copied into the object: they lie there, and it is counted and its bit set
+each-served : let s = undisturbed blank (allocating ∷ reading ∷ copying ∷ []) in
+    (take 5 (drop 639 (s .heap)) ≡ 0 ∷ 7 ∷ 8 ∷ 9 ∷ 0 ∷ [])
+    × (drop countsAt (s .metadata) ≡ 1 ∷ replicate 61 0 ++ (1 ∷ replicate 23 0))
 unfolding undisturbed serving admit judge first bitmapAt slotSize parse allocate probe putByte copy read space
-in-order = ((refl, refl), (refl, refl), (refl, refl), (refl, refl), (refl, refl))
+each-served = (refl, refl)
 
 -- what is lent beside a request reaches it: two bytes of the page are shown
 page-shown : callOn blank (reading .0) (reading .1) .answer ≡ served 2
