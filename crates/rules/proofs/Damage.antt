@@ -97,6 +97,10 @@ module _ (G : Layout) (m h : List ℕ) where
       other : eqb (getD slot k 0) (canaryByte (canaryOf m) k) ≡ false
       other = not-true _ (first-passes (isDamaged (canaryOf m) slot) 0 (length slot) (omega (arith, found)))
 
+  -- such a slot starts below the heap's end
+  pub damaged-inside : (x : ℕ) → Damaged G m h x → x < heapLength G
+  damaged-inside x d = omega (arith, d .start, slot-inside G (d .class) (d .slot) (d .exists), d .within)
+
   module _ (fits : length h ≡ heapLength G) where
     damaged-hit : (x : ℕ) → Damaged G m h x → isHit G m h x ≡ true
     damaged-hit x d = subst (λ (y : ℕ). isHit G m h y ≡ true) (sym (d .start)) (rw (starts, clear, damaged))
@@ -133,9 +137,6 @@ module _ (G : Layout) (m h : List ℕ) where
             let size : length bytes ≡ slotSize G c = slot-length G h c i fits (d .exists) in
             let early : damage (canaryOf m) bytes ≤ d .byte = first-le (isDamaged (canaryOf m) bytes) 0 (length bytes) (d .byte) (omega arith) other in
             rw (located .0) (lt-ltb (damage (canaryOf m) bytes) (length bytes) (omega (arith, d .within)))
-
-    damaged-inside : (x : ℕ) → Damaged G m h x → x < heapLength G
-    damaged-inside x d = omega (arith, d .start, slot-inside G (d .class) (d .slot) (d .exists), d .within)
 
     -- the hits are all of them
     pub hits-damaged : AllDamaged G m h (hits G m h)
