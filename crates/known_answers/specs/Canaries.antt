@@ -8,6 +8,7 @@ use Rattle.search.specs.Tabulate.{tabulate}
 use Rattle.writing.specs.Overwrite.{overwrite}
 use Rattle.geometry.specs.Layout.{layoutOf, countsAt, canaryAt, header}
 use Rattle.rules.specs.Open.{setup}
+use Rattle.rules.specs.Serve.{lent}
 use Rattle.rules.specs.Call.{Call, State, stateOf, callOn, stateAfter, opening}
 use Rattle.rules.specs.Inspect.{isHit}
 use Rattle.known_answers.specs.Calls.{Row, row, numbers, heapOf, allocate, free, inspecting}
@@ -40,14 +41,14 @@ part offset n heap = take n (drop offset heap)
 -- an object of 5 bytes lies at 640; its slot is written over, and so is a byte on either side
 unfoldable pub overrun : State
 overrun =
-    let s : State = stateAfter newly (allocate 5) [] in
+    let s : State = stateAfter newly (allocate 5) (lent []) in
     stateOf (overwrite (s .heap) 639 (replicate 10 0xff)) (s .metadata)
 
 -- the answer to a free then, with metadata m, and the ten bytes
 unfoldable pub freeing : List ℕ → ℕ → List ℕ
 freeing m offset =
     let s : State = stateOf (overrun .heap) m in
-    let c : Call = callOn s (free offset) [] in
+    let c : Call = callOn s (free offset) (lent []) in
     numbers (c .answer) ++ part 639 10 (c .heap (s .heap))
 
 -- ---- inspections

@@ -8,6 +8,7 @@ use mathlib.Core.List.{List, [], _∷_, _++_, append-assoc, append-nil, flatten}
 use lib.ListN.{length, take, drop, length-append, length-take, length-drop, take-append-drop}
 use lib.Seq.{take-append-le, drop-append-le}
 use Rattle.request.specs.Parse.{requestSize}
+use Rattle.rules.specs.Serve.{lent}
 use Rattle.rules.specs.Call.{State, stateAfter}
 use Rattle.replay.specs.Line.{lineRoom, lineFor}
 use Rattle.replay.specs.Batch.{Batch, behind, replay, requests, batchOf}
@@ -37,7 +38,7 @@ module _ (b : List ℕ) (j : ℕ) where
   unfolding replay
   replay-append zero a s number e = rw (empty a e, zero-add)
   replay-append (suc k) a s number e =
-      let more = replay-append k (drop requestSize a) (stateAfter s (take requestSize a) []) (number + 1) (fewer k a e) in
+      let more = replay-append k (drop requestSize a) (stateAfter s (take requestSize a) (lent [])) (number + 1) (fewer k a e) in
       rw (suc-add, first k a e, later k a e, more) (behind-both (lineFor s (take requestSize a) [] number) _ _)
 
 -- whole requests, and any bytes after them

@@ -13,6 +13,7 @@ use Rattle.numbers.proofs.Cut.{take-min}
 use Rattle.writing.specs.Overwrite.{overwrite}
 use Rattle.request.specs.Parse.{requestSize}
 use Rattle.replay.specs.Line.{lineRoom, lineFor}
+use Rattle.rules.specs.Serve.{lent}
 use Rattle.rules.specs.Call.{State, stateOf, stateAfter}
 use Rattle.replay.specs.Batch.{Batch, behind, replay, requests, accepted, batchOf}
 use Rattle.writing.proofs.Writing.{Wrote, wrote-then, wrote-from, wrote-length}
@@ -60,7 +61,7 @@ replay-more : (source : List ℕ) (left : ℕ) (now : State) (next : ℕ) (input
     → let request = take requestSize input in
     let rest = drop requestSize input in
     replay source left now next input
-    ≡ behind (lineFor now request source next) (replay source (left - 1) (stateAfter now request source) (next + 1) rest)
+    ≡ behind (lineFor now request source next) (replay source (left - 1) (stateAfter now request (lent source)) (next + 1) rest)
 unfolding replay
 replay-more source left now next input some =
     let one-more : left ≡ suc (left - 1) = omega arith in
@@ -115,7 +116,7 @@ module _ {source : List ℕ} {before : State} {number : ℕ} {input out₀ : Lis
         → let request = take requestSize (drop at input) in
         let line = lineFor now request source next in
         r ≡ length line → r ≤ lineRoom → w ≡ overwrite (take (length out - written) (drop written out)) 0 line
-        → stateOf heap metadata ≡ stateAfter now request source
+        → stateOf heap metadata ≡ stateAfter now request (lent source)
         → length metadata ≡ length (now .metadata) → length heap ≡ length (now .heap)
         → Replayed source before number input out₀ (record { heap = heap; metadata = metadata })
         (take written out ++ (w ++ drop (length out - written) (drop written out))) (left - 1) (next + 1) end (written + r)

@@ -5,6 +5,7 @@ use mathlib.Core.List.{List, [], _++_}
 use lib.ListN.{length, take, drop}
 use lib.Dec.{leb, ltb}
 use Rattle.request.specs.Parse.{requestSize}
+use Rattle.rules.specs.Serve.{lent}
 use Rattle.rules.specs.Call.{State, stateAfter}
 use Rattle.replay.specs.Line.{lineRoom, hasRoom, lineFor}
 
@@ -24,7 +25,7 @@ replay source zero s number input = record { text = []; state = s; next = number
 replay source (suc k) s number input =
     let request : List ℕ = take requestSize input in
     behind (lineFor s request source number)
-    (replay source k (stateAfter s request source) (number + 1) (drop requestSize input))
+    (replay source k (stateAfter s request (lent source)) (number + 1) (drop requestSize input))
 
 -- how many requests an input has: sixteen bytes each, the last perhaps shorter
 abbrev pub requests : List ℕ → ℕ
@@ -43,5 +44,5 @@ batchOf source room s number input = replay source (accepted room number input) 
 abbrev pub stepOf : List ℕ → ℕ → State → ℕ → List ℕ → Batch
 stepOf source room s number request =
     cond (hasRoom room)
-    (record { text = lineFor s request source number; state = stateAfter s request source; next = number + 1 })
+    (record { text = lineFor s request source number; state = stateAfter s request (lent source); next = number + 1 })
     (record { text = []; state = s; next = number })

@@ -20,7 +20,6 @@ use Rattle.rules.specs.Metadata.{countAt, countOf, bitmapOf}
 use Rattle.rules.specs.Open.{Setup, fresh}
 use Rattle.rules.specs.Allocate.{probe, draws}
 use Rattle.rules.specs.Live.{Object, holding, ofClass, Sound, Counted}
-use Rattle.rules.specs.Inspect.{ClearAlike}
 use Rattle.rules.specs.Wordings.{At, inClass, Disjoint}
 use Rattle.rules.proofs.Places.{at-nowhere, at-first}
 use Rattle.rules.proofs.Wordings.{class-filter, sound-places}
@@ -180,33 +179,6 @@ last-not-counted k = let e : _≡_ {A = ℕ} 0 1 = k .objects 11 (omega arith) i
 live-elsewhere : Counted H (counts H 11 1 2) (slotObject H 10 1 ∷ []) → ⊥
 unfolding ofClass bitmapAt slotSize first
 live-elsewhere k = let e : _≡_ {A = ℕ} 1 0 = k .objects 11 (omega arith) in omega arith
-
--- ---- the same bytes in clear slots
-
--- slot 0 of class 0 is live and slot 1 is not; a region of 1,024 bytes has no slot of class 8, from 8,192 on
-abbrev oneLive : List ℕ
-oneLive = counting 1 1 0
-
--- a heap with itself, with a byte changed in the live slot, and with one changed in no slot
-alike-self : (F : Layout) (m h : List ℕ) → ClearAlike F m h h
-alike-self F m h x some clear = refl
-
-alike-but-live : (h : List ℕ) (v : ℕ) → ClearAlike G oneLive h (set h 7 v)
-unfolding bitmapAt slotSize first
-alike-but-live h v x some clear = sym (getD-set-other h 7 x v 0 (λ e. true≢false (rw e at clear)))
-
-alike-but-outside : (h : List ℕ) (v : ℕ) → ClearAlike G oneLive h (set h 8_192 v)
-unfolding slotSize first
-alike-but-outside h v x some clear = sym (getD-set-other h 8_192 x v 0 (λ e. let none : 0 < 0 = rw e at some in omega arith))
-
--- near misses: a byte of a clear slot, its first and its last
-not-alike : ClearAlike G oneLive (replicate 16 0) (set (replicate 16 0) 8 1) → ⊥
-unfolding bitmapAt slotSize first
-not-alike same = let e : _≡_ {A = ℕ} 0 1 = same 8 (omega arith) refl in omega arith
-
-not-alike-last : ClearAlike G oneLive (replicate 16 0) (set (replicate 16 0) 15 1) → ⊥
-unfolding bitmapAt slotSize first
-not-alike-last same = let e : _≡_ {A = ℕ} 0 1 = same 15 (omega arith) refl in omega arith
 
 -- ---- the limit of draws
 

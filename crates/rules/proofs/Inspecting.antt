@@ -1,27 +1,29 @@
--- What each way through an inspection comes to; that a refused one changes nothing; and the theorem that it depends on no byte of a live slot, and on none
--- outside slots.
+-- What each way through an inspection comes to, and the theorems of what it lists: nothing where it is refused; where it is served all damaged
+-- clear slots; and that this depends on no byte of a live slot, and on none outside slots.
 use Prim.Native.Nat.{ℕ, _+_, _<_}
-use mathlib.Core.Path.{_≡_, refl, sym, _∙_}
-use mathlib.Core.Bool.{Bool, true, false, and-eq-true-iff}
+use mathlib.Core.Path.{_≡_, refl, sym, ap, _∙_}
+use mathlib.Core.Logic.{_↔_}
+use mathlib.Core.Bool.{Bool, true, false}
 use mathlib.Core.List.{List}
 use native.Mathlib.Omega.{arith}
-use borrow.Author.Tests.{eqb-true, ltb-true}
-use lib.Dec.{eqb, ltb}
-use lib.ListN.{length, take, drop, getD, length-take, length-drop}
-use lib.Seq.{take-append-seam, ext-getD, getD-take, getD-drop}
-use Rattle.search.proofs.Those.{those-same}
-use Rattle.writing.specs.Overwrite.{overwrite}
+use borrow.Author.Tests.{ltb-true, lt-ltb}
+use lib.Dec.{ltb}
+use lib.ListN.{length, drop, getD}
+use lib.Seq.{take-append-seam}
+use Rattle.search.proofs.Rising.{rising-same}
 use Rattle.geometry.specs.declared.Layout.{Layout}
-use Rattle.geometry.specs.declared.Location.{Location}
-use Rattle.geometry.specs.Layout.{heapLength, layoutOf, slotSize, slots, slotStart, locate}
-use Rattle.geometry.proofs.Slots.{located-start, slot-located}
+use Rattle.geometry.specs.Layout.{heapLength, layoutOf}
 use Rattle.answer.specs.declared.Refusal.{Refusal}
+use Rattle.answer.specs.declared.Refusal.the-variants.{ListTooShort}
+use Rattle.answer.specs.Reply.{numberOf}
+use Rattle.answer.proofs.Numbers.{refusal-number}
 use Rattle.rules.specs.declared.Judged.{Judged}
 use Rattle.rules.specs.declared.Judged.the-variants.{Laid, Unfit}
 use Rattle.rules.specs.Judge.{admit}
-use Rattle.rules.specs.Object.{isLive, isStart}
-use Rattle.rules.specs.Inspect.{isHit, hits, unlisted, listedWhole, inspection, offsetsIn, ClearAlike}
+use Rattle.rules.specs.Inspect.{hits, Inspection, unlisted, listed, listedWhole, inspection}
+use Rattle.rules.specs.Inspected.{offsetsIn, Damaged, AllDamaged, ClearAlike}
 use Rattle.rules.proofs.Serving.{admit-fits}
+use Rattle.rules.proofs.Damage.{slot-at, hits-damaged, damaged-same}
 
 module _ (h m list : List ℕ) where
   pub inspection-unfit : {r : Refusal} → admit (length h) m ≡ Unfit r → inspection h m list ≡ unlisted list r
@@ -31,6 +33,32 @@ module _ (h m list : List ℕ) where
   pub inspection-laid : {G : Layout} → admit (length h) m ≡ Laid G → inspection h m list ≡ listedWhole list (hits G m h)
   unfolding inspection
   inspection-laid e = rw e
+
+module _ (list offsets : List ℕ) where
+  -- what is listed can be read back
+  listed-offsets : offsetsIn (listed list offsets) ≡ offsets
+  listed-offsets = take-append-seam offsets (drop (length offsets) (drop 0 list))
+
+  -- so a list that was long enough holds all
+  whole-offsets : listedWhole list offsets .answer .number ≡ 0
+      → (offsetsIn (listedWhole list offsets) ≡ offsets) × (listedWhole list offsets .answer .value ≡ length offsets)
+  whole-offsets = go (ltb (length list) (length offsets)) refl
+    where
+      go : (t : Bool) → ltb (length list) (length offsets) ≡ t → let i = listedWhole list offsets in
+          i .answer .number ≡ 0 → (offsetsIn i ≡ offsets) × (i .answer .value ≡ length offsets)
+      go true s = rw s (λ e. absurd (refusal-number ListTooShort e))
+      go false s = rw s (λ e. (listed-offsets, refl))
+
+  -- and it was too short exactly where they are more
+  whole-short : (listedWhole list offsets .answer .number ≡ numberOf ListTooShort) ↔ (length list < length offsets)
+  whole-short = (go (ltb (length list) (length offsets)) refl, λ l. rw (lt-ltb (length list) (length offsets) l))
+    where
+      go : (t : Bool) → ltb (length list) (length offsets) ≡ t
+          → listedWhole list offsets .answer .number ≡ numberOf ListTooShort → length list < length offsets
+      go true s = λ e. ltb-true (length list) (length offsets) s
+      go false s = rw s (λ e. absurd (refusal-number ListTooShort (sym e)))
+
+-- ---- refused
 
 -- a refusal has value 0, and leaves the list
 pub inspection-refused : (h m list : List ℕ) → let i = inspection h m list in
@@ -47,59 +75,77 @@ inspection-refused h m list = go (admit (length h) m) refl
         short true s = rw s (λ f. (refl, refl))
         short false s = rw s (λ f. absurd (f refl))
 
--- byte i of a slot that begins at x is located in it
-pub slot-byte : (G : Layout) (x i : ℕ) → let l = locate G x in
-    isStart G l ≡ true → i < slotSize G (l .class)
-    → (locate G (x + i) .class ≡ l .class) × (locate G (x + i) .slot ≡ l .slot) × (l .slot < slots G (l .class)) × (x ≡ slotStart G (l .class) (l .slot))
-slot-byte G x i start inside =
-    let l : Location = locate G x in
-    let begins = and-eq-true-iff (eqb (l .into) 0) (ltb (l .slot) (slots G (l .class))) .0 start in
-    let slot : l .slot < slots G (l .class) = ltb-true (l .slot) (slots G (l .class)) (begins .1) in
-    let at : x ≡ slotStart G (l .class) (l .slot) = located-start G x (eqb-true (l .into) 0 (begins .0)) in
-    let (class′, slot′) = slot-located G (l .class) (l .slot) (x + i) slot (omega (arith, at)) (omega (arith, at)) in
-    (class′, slot′, slot, at)
+-- ---- served
 
-module _ (G : Layout) (m h h′ : List ℕ) (long : length h ≡ length h′) (same : ClearAlike G m h h′) where
-  -- a clear slot holds the same bytes in both
-  slot-same : (x : ℕ) → let l = locate G x in
-      isStart G l ≡ true → isLive G m l ≡ false → take (slotSize G (l .class)) (drop x h) ≡ take (slotSize G (l .class)) (drop x h′)
-  slot-same x start clear = ext-getD 0 (take size (drop x h)) (take size (drop x h′)) (simp (length-take, length-drop, long)) byte
-    where
-      size : ℕ
-      size = slotSize G (locate G x .class)
+-- With lengths and counts that are right, an inspection goes by the offsets of all damaged clear slots: there is one list of them.
+module _ (h m list : List ℕ) {G : Layout} (admitted : admit (length h) m ≡ Laid G) where
+  pub all-damaged : AllDamaged G m h (hits G m h)
+  all-damaged = hits-damaged G m h (admit-fits (length h) m admitted .1 .heap)
 
-      byte : (i : ℕ) → i < length (take size (drop x h)) → getD (take size (drop x h)) i 0 ≡ getD (take size (drop x h′)) i 0
-      byte i k =
-          let inside : i < size = omega (arith, length-take size (drop x h)) in
-          let (class′, slot′, slot, at) = slot-byte G x i start inside in
-          getD-take size (drop x h) i 0 inside
-          ∙ getD-drop x h i 0
-          ∙ same (x + i) (rw (slot′, class′) slot) (rw (slot′, class′) clear)
-          ∙ sym (getD-take size (drop x h′) i 0 inside ∙ getD-drop x h′ i 0)
+  pub inspection-whole : {offsets : List ℕ} → AllDamaged G m h offsets → inspection h m list ≡ listedWhole list offsets
+  inspection-whole a = inspection-laid h m list admitted ∙ ap (listedWhole list) (damaged-same G m h all-damaged a)
 
-  hit-same : (x : ℕ) → isHit G m h x ≡ isHit G m h′ x
-  hit-same x = go (isStart G (locate G x)) (isLive G m (locate G x)) refl refl
-    where
-      go : (s t : Bool) → isStart G (locate G x) ≡ s → isLive G m (locate G x) ≡ t → isHit G m h x ≡ isHit G m h′ x
-      go false t e f = rw e
-      go true true e f = rw (e, f)
-      go true false e f = rw (slot-same x e f)
+  -- It is refused for the list exactly where that has too little room for them.
+  pub inspection-short : (inspection h m list .answer .number ≡ numberOf ListTooShort)
+      ↔ ((offsets : List ℕ) × AllDamaged G m h offsets × (length list < length offsets))
+  inspection-short = (
+    λ e. (hits G m h, all-damaged, whole-short list (hits G m h) .0 (rw (inspection-whole all-damaged) at e)),
+    λ (offsets, a, l). rw (inspection-whole a) (whole-short list offsets .1 l),
+  )
 
-  pub hits-same : hits G m h ≡ hits G m h′
-  hits-same = those-same (isHit G m h) (isHit G m h′) 0 (heapLength G) (λ x l u. hit-same x)
+-- A served inspection lists an offset exactly when a clear slot starts there that holds a byte other than the canary's. The offsets rise, and its
+-- value is their number.
+pub inspection-lists : (h m list : List ℕ) → let i = inspection h m list in
+    i .answer .number ≡ 0 → AllDamaged (layoutOf (length h)) m h (offsetsIn i) × (length (offsetsIn i) ≡ i .answer .value)
+inspection-lists h m list = go (admit (length h) m) refl
+  where
+    go : (j : Judged) → admit (length h) m ≡ j → let i = inspection h m list in
+        i .answer .number ≡ 0 → AllDamaged (layoutOf (length h)) m h (offsetsIn i) × (length (offsetsIn i) ≡ i .answer .value)
+    go (Unfit r) e = rw (inspection-unfit h m list e) (λ f. absurd (refusal-number r f))
+    go (Laid G) e = rw (inspection-laid h m list e) (λ f.
+        let (back, value) = whole-offsets list (hits G m h) f in
+        rw (back, value, ← (admit-fits (length h) m e .0)) (all-damaged h m list e, refl))
+
+-- ---- what that depends on
+
+module _ (G : Layout) (m h h′ : List ℕ) (same : ClearAlike G m h h′) where
+  damaged-alike : (x : ℕ) → Damaged G m h x → Damaged G m h′ x
+  damaged-alike x d =
+      let byte : getD h (x + d .byte) 0 ≡ getD h′ (x + d .byte) 0 =
+      rw (d .start)
+      (sym (slot-at G h (d .class) (d .slot) (d .byte) (d .within))
+      ∙ ap (λ (s : List ℕ). getD s (d .byte) 0) (same (d .class) (d .slot) (d .exists) (omega (arith, d .clear)))
+      ∙ slot-at G h′ (d .class) (d .slot) (d .byte) (d .within)) in
+      record {
+        class = d .class;
+        slot = d .slot;
+        byte = d .byte;
+        exists = d .exists;
+        start = d .start;
+        clear = d .clear;
+        within = d .within;
+        differs = λ e. d .differs (byte ∙ e);
+      }
+
+hits-same : (G : Layout) (m h h′ : List ℕ) → length h ≡ heapLength G → length h′ ≡ heapLength G → ClearAlike G m h h′ → hits G m h ≡ hits G m h′
+hits-same G m h h′ fits fits′ same =
+    let a = hits-damaged G m h fits in
+    let b = hits-damaged G m h′ fits′ in
+    rising-same (hits G m h) (hits G m h′) (a .rising) (b .rising) (λ x. (
+      λ n. b .exactly x .1 (damaged-alike G m h h′ same x (a .exactly x .0 n)),
+      λ n. a .exactly x .1 (damaged-alike G m h′ h (λ c i slot clear. sym (same c i slot clear)) x (b .exactly x .0 n)),
+    ))
 
 -- two lists of one length are given the same offsets, or one refusal
-whole-same : (list list′ offsets : List ℕ) → length list ≡ length list′
-    → (listedWhole list offsets .answer ≡ listedWhole list′ offsets .answer) × (offsetsIn (listedWhole list offsets) ≡ offsetsIn (listedWhole list′ offsets))
+abbrev Same : Inspection → Inspection → Type 0
+Same i i′ = (i .answer ≡ i′ .answer) × (offsetsIn i ≡ offsetsIn i′)
+
+whole-same : (list list′ offsets : List ℕ) → length list ≡ length list′ → Same (listedWhole list offsets) (listedWhole list′ offsets)
 whole-same list list′ offsets long = go (ltb (length list) (length offsets)) refl
   where
-    front : (l : List ℕ) → take (length offsets) (overwrite l 0 offsets) ≡ offsets
-    front l = take-append-seam offsets (drop (length offsets) (drop 0 l))
-
-    go : (t : Bool) → ltb (length list) (length offsets) ≡ t
-        → (listedWhole list offsets .answer ≡ listedWhole list′ offsets .answer) × (offsetsIn (listedWhole list offsets) ≡ offsetsIn (listedWhole list′ offsets))
+    go : (t : Bool) → ltb (length list) (length offsets) ≡ t → Same (listedWhole list offsets) (listedWhole list′ offsets)
     go true e = rw (e, rw long at e) (refl, refl)
-    go false e = rw (e, rw long at e) (refl, front list ∙ sym (front list′))
+    go false e = rw (e, rw long at e) (refl, listed-offsets list offsets ∙ sym (listed-offsets list′ offsets))
 
 -- On one metadata, with heaps of one length that hold the same bytes in clear slots and lists of one length: the same answer, and the same
 -- offsets.
@@ -109,10 +155,13 @@ pub same-inspection : (h h′ m list list′ : List ℕ) → length h ≡ length
     (i .answer ≡ i′ .answer) × (offsetsIn i ≡ offsetsIn i′)
 same-inspection h h′ m list list′ long room same = go (admit (length h) m) refl
   where
-    go : (j : Judged) → admit (length h) m ≡ j
-        → (inspection h m list .answer ≡ inspection h′ m list′ .answer) × (offsetsIn (inspection h m list) ≡ offsetsIn (inspection h′ m list′))
+    go : (j : Judged) → admit (length h) m ≡ j → Same (inspection h m list) (inspection h′ m list′)
     go (Unfit r) e = rw (inspection-unfit h m list e, inspection-unfit h′ m list′ (rw long at e)) (refl, refl)
     go (Laid G) e =
-        let of = admit-fits (length h) m e .0 in
-        rw (inspection-laid h m list e, inspection-laid h′ m list′ (rw long at e), ← (hits-same G m h h′ long (rw of same)))
+        let (of, fits) = admit-fits (length h) m e in
+        rw (
+          inspection-laid h m list e,
+          inspection-laid h′ m list′ (rw long at e),
+          ← (hits-same G m h h′ (fits .heap) (sym long ∙ fits .heap) (rw of same)),
+        )
         (whole-same list list′ (hits G m h) room)

@@ -16,7 +16,10 @@ pub mod Tracking
 pub mod Sane
 pub mod Runs
 pub mod Drawing
+pub mod Damage
+pub mod Alike
 pub mod Inspecting
+pub mod Undisturbed
 pub mod Clean
 pub mod Places
 pub mod Wordings
@@ -27,3 +30,4 @@ pub mod Examples
 pub mod Changing
 pub mod ChangingExamples
 pub mod RunExamples
+pub mod InspectingExamples

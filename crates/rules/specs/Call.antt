@@ -19,7 +19,7 @@ use Rattle.rules.specs.Open.{Setup, fresh}
 use Rattle.rules.specs.Canary.{filledHeap}
 use Rattle.rules.specs.View.{noView}
 use Rattle.rules.specs.Outcome.{Outcome, reply, metadataAfter, heapAfter, viewOf}
-use Rattle.rules.specs.Serve.{Lent, lentWith, lent, act}
+use Rattle.rules.specs.Serve.{Lent, lentWith, act}
 
 pub record Call : Type 0 where
   pub answer : Reply
@@ -70,9 +70,9 @@ pub record State : Type 0 where
 abbrev pub stateOf : List ℕ → List ℕ → State
 stateOf heap metadata = record { heap = heap; metadata = metadata }
 
--- a request's call there with a source beside it and no page, and what it leaves
-abbrev pub callOn : State → List ℕ → List ℕ → Call
-callOn s request source = call (length (s .heap)) (s .metadata) request (lent source)
+-- a request's call there, and what it leaves
+abbrev pub callOn : State → List ℕ → Lent → Call
+callOn s request beside = call (length (s .heap)) (s .metadata) request beside
 
-abbrev pub stateAfter : State → List ℕ → List ℕ → State
-stateAfter s request source = stateOf (callOn s request source .heap (s .heap)) (callOn s request source .metadata)
+abbrev pub stateAfter : State → List ℕ → Lent → State
+stateAfter s request beside = stateOf (callOn s request beside .heap (s .heap)) (callOn s request beside .metadata)

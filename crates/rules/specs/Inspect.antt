@@ -1,15 +1,14 @@
 -- Inspection: which clear slots no longer hold the canary throughout. It reads the heap, so it is no request.
-use Prim.Native.Nat.{ℕ, _<_}
-use mathlib.Core.Path.{_≡_}
-use mathlib.Core.Bool.{Bool, false, not, _&&_}
+use Prim.Native.Nat.{ℕ}
+use mathlib.Core.Bool.{Bool, not, _&&_}
 use mathlib.Core.List.{List, [], _∷_}
-use lib.ListN.{length, take, drop, getD}
+use lib.ListN.{length, take, drop}
 use lib.Dec.{ltb}
 use Rattle.search.specs.Those.{those}
 use Rattle.writing.specs.Overwrite.{overwrite}
 use Rattle.geometry.specs.declared.Layout.{Layout}
 use Rattle.geometry.specs.declared.Location.{Location}
-use Rattle.geometry.specs.Layout.{heapLength, slotSize, slots, locate}
+use Rattle.geometry.specs.Layout.{heapLength, slotSize, locate}
 use Rattle.answer.specs.declared.Refusal.{Refusal}
 use Rattle.answer.specs.declared.Refusal.the-variants.{ListTooShort}
 use Rattle.answer.specs.Reply.{Reply, served, refusedBy}
@@ -18,7 +17,6 @@ use Rattle.rules.specs.Metadata.{canaryOf}
 use Rattle.rules.specs.Judge.{onceLaid, admit}
 use Rattle.rules.specs.Canary.{hasDamage}
 use Rattle.rules.specs.Object.{isLive, isStart}
-use Rattle.rules.specs.Call.{State, stateAfter}
 
 -- a clear slot begins at offset x, and is damaged
 abbrev pub isHit : Layout → List ℕ → List ℕ → ℕ → Bool
@@ -50,22 +48,3 @@ listedWhole list offsets =
 -- it goes by what requests go by
 unfoldable pub inspection : List ℕ → List ℕ → List ℕ → Inspection
 inspection h m list = onceLaid (unlisted list) (λ G. listedWhole list (hits G m h)) (admit (length h) m)
-
--- ---- what it depends on
-
--- the offsets that it lists
-abbrev pub offsetsIn : Inspection → List ℕ
-offsetsIn i = take (i .answer .value) (i .list)
-
--- two heaps hold the same bytes in clear slots
-abbrev pub ClearAlike : Layout → List ℕ → List ℕ → List ℕ → Type 0
-ClearAlike G m h h′ =
-    (x : ℕ) → let l = locate G x in
-    l .slot < slots G (l .class) → isLive G m l ≡ false → getD h x 0 ≡ getD h′ x 0
-
--- ---- what it tells
-
--- a heap and its metadata after requests, each with a source, where nobody else writes
-unfoldable pub undisturbed : State → List (List ℕ × List ℕ) → State
-undisturbed s [] = s
-undisturbed s ((request, source) ∷ rest) = undisturbed (stateAfter s request source) rest

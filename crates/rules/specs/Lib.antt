@@ -15,3 +15,4 @@ pub mod Live
 pub mod Wordings
 pub mod Inspect
 pub mod Changing
+pub mod Inspected

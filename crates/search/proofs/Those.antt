@@ -1,9 +1,13 @@
--- Laws of `those`: as a loop meets it that goes from one to the next, how many they may be, and that the same test gives
--- the same numbers.
+-- Laws of `those`: as a loop meets it that goes from one to the next, how many they may be, that the same test gives the
+-- same numbers, and which they are.
 use Prim.Native.Nat.{ℕ, zero, suc, _+_, _-_, _≤_, _<_}
-use mathlib.Core.Path.{_≡_, refl, ap}
-use mathlib.Core.Bool.{Bool, true, false}
-use mathlib.Core.List.{List, [], _∷_}
+use mathlib.Core.Path.{_≡_, refl, sym, ap, _∙_}
+use mathlib.Core.Bool.{Bool, true, false, true≢false}
+use mathlib.Core.Logic.{_⊎_, inl, inr, ∥∥₁-elim}
+use mathlib.Core.List.{List, [], _∷_, List·Memᴰ, List·Memᴰ·head, List·Memᴰ·tail, List·Memᴰ·not-nil, List·Memᴰ·cases-cons}
+use mathlib.Core.List.{Pairwise, Pairwise·nil, Pairwise·cons}
+use native.Mathlib.Bridge.{le-prop}
+use native.Mathlib.Decide.{ℕ-discrete}
 use native.Mathlib.Omega.{arith}
 use lib.ListN.{length}
 use Rattle.search.specs.First.{first}
@@ -67,3 +71,40 @@ module _ (test : ℕ → Bool) where
       go : (t : Bool) → test i ≡ t → other i ≡ t → those test (suc i) k ≡ those other (suc i) k → those test i (suc k) ≡ those other i (suc k)
       go true e f rest = rw (e, f, those) (ap (λ (xs : List ℕ). i ∷ xs) rest)
       go false e f rest = rw (e, f, those) rest
+
+  -- a number is one of them exactly if it lies among the k and passes
+  pub those-passes : (i k x : ℕ) → List·Memᴰ x (those test i k) → (i ≤ x) × (x < i + k) × (test x ≡ true)
+  unfolding those
+  those-passes i zero x m = absurd (List·Memᴰ·not-nil m)
+  those-passes i (suc k) x m = go (test i) refl (those-passes (suc i) k x)
+    where
+      go : (t : Bool) → test i ≡ t → (List·Memᴰ x (those test (suc i) k) → (suc i ≤ x) × (x < suc i + k) × (test x ≡ true))
+          → (i ≤ x) × (x < i + suc k) × (test x ≡ true)
+      go true e rest = here (List·Memᴰ·cases-cons (rw (e, those) at m))
+        where
+          here : (x ≡ i) ⊎ List·Memᴰ x (those test (suc i) k) → (i ≤ x) × (x < i + suc k) × (test x ≡ true)
+          here (inl q) = (omega arith, omega arith, rw q e)
+          here (inr n) = let (l, u, p) = rest n in (omega arith, omega arith, p)
+      go false e rest = let (l, u, p) = rest (rw (e, those) at m) in (omega arith, omega arith, p)
+
+  pub those-member : (i k x : ℕ) → i ≤ x → x < i + k → test x ≡ true → List·Memᴰ x (those test i k)
+  unfolding those
+  those-member i zero x l u p = absurd (omega arith)
+  those-member i (suc k) x l u p = go (test i) refl (ℕ-discrete x i) (those-member (suc i) k x)
+    where
+      go : (t : Bool) → test i ≡ t → Dec (x ≡ i) → (suc i ≤ x → x < suc i + k → test x ≡ true → List·Memᴰ x (those test (suc i) k))
+          → List·Memᴰ x (those test i (suc k))
+      go true e (yes q) rest = rw (e, those) (List·Memᴰ·head q)
+      go true e (no q) rest = rw (e, those) (List·Memᴰ·tail (rest (omega arith) (omega arith) p))
+      go false e (yes q) rest = absurd (true≢false (sym p ∙ ap test q ∙ e))
+      go false e (no q) rest = rw (e, those) (rest (omega arith) (omega arith) p)
+
+  -- each is below all that come later
+  pub those-rising : (i k : ℕ) → Pairwise _<_ (those test i k)
+  unfolding those
+  those-rising i zero = Pairwise·nil
+  those-rising i (suc k) = go (test i) refl (those-rising (suc i) k)
+    where
+      go : (t : Bool) → test i ≡ t → Pairwise _<_ (those test (suc i) k) → Pairwise _<_ (those test i (suc k))
+      go true e rest = rw (e, those) (Pairwise·cons (λ x m. ∥∥₁-elim m le-prop (λ d. those-passes (suc i) k x d .0)) rest)
+      go false e rest = rw (e, those) rest
