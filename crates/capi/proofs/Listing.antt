@@ -1,6 +1,6 @@
 -- No inspection lists more slots than there are, so that a list of as many numbers is never too short.
 use Prim.Native.Nat.{ℕ, zero, suc, _+_, _-_, _*_, _/_, _≤_, _<_}
-use mathlib.Core.Path.{_≡_, refl, sym, ap, ap₂, _∙_}
+use mathlib.Core.Path.{_≡_, refl, ap, ap₂, _∙_}
 use mathlib.Core.Bool.{Bool, true, false, and-false}
 use mathlib.Core.List.{List}
 use native.Mathlib.Nat.{zero-add, add-zero, suc-add, suc-mul, mul-zero, zero-mul, le-refl, le-trans, div-mul-le-self}
@@ -14,13 +14,11 @@ use Rattle.search.proofs.Those.{those-few}
 use Rattle.geometry.specs.declared.Layout.{Layout}
 use Rattle.geometry.specs.Layout.{classes, slotSize, slots, slotStart, locate}
 use Rattle.geometry.proofs.Slots.{slot-located, located-start, slots-held}
-use Rattle.answer.specs.declared.Refusal.{Refusal}
-use Rattle.rules.specs.declared.Judged.{Judged}
-use Rattle.rules.specs.declared.Judged.the-variants.{Laid, Unfit}
-use Rattle.rules.specs.Judge.{judge, anyOver, admit}
+use Rattle.rules.specs.declared.Judged.the-variants.{Laid}
+use Rattle.rules.specs.Judge.{admit}
 use Rattle.rules.specs.Object.{isStart}
 use Rattle.rules.specs.Inspect.{isHit, hits, listed, inspection}
-use Rattle.rules.proofs.Serving.{admit-unfit, admit-over, admit-laid}
+use Rattle.rules.proofs.Serving.{admitted-laid}
 use Rattle.rules.proofs.Inspecting.{inspection-laid}
 use Rattle.capi.specs.Slots.{slotsBefore, allSlots, countSlots}
 
@@ -131,21 +129,6 @@ module _ (G : Layout) (m h : List ℕ) where
   hits-few = before-few classes
 
 -- ---- of an inspection
-
-unfit-laid : {r : Refusal} {G : Layout} → Unfit r ≡ Laid G → ⊥
-unfit-laid e = let z : _≡_ {A = ℕ} 0 1 = cc in omega arith
-
--- the layout that a request goes by is that of the lengths
-admitted-laid : (n : ℕ) (m : List ℕ) {G : Layout} → admit n m ≡ Laid G → judge n (length m) ≡ Laid G
-admitted-laid n m {G} e = go (judge n (length m)) refl
-  where
-    go : (j : Judged) → judge n (length m) ≡ j → judge n (length m) ≡ Laid G
-    go (Unfit r) f = absurd (unfit-laid (sym (admit-unfit n m f) ∙ e))
-    go (Laid F) f = counted (anyOver F m) refl
-      where
-        counted : (t : Bool) → anyOver F m ≡ t → judge n (length m) ≡ Laid G
-        counted true o = absurd (unfit-laid (sym (admit-over n m f o) ∙ e))
-        counted false o = f ∙ sym (admit-laid n m f o) ∙ e
 
 -- with a list of as many numbers as there are slots, all hits are listed
 pub never-short : (h m list : List ℕ) {G : Layout} → admit (length h) m ≡ Laid G → countSlots (length h) m ≤ length list

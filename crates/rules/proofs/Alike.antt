@@ -9,16 +9,16 @@ use lib.Seq.{ext-getD}
 use Rattle.geometry.specs.declared.Layout.{Layout}
 use Rattle.geometry.specs.declared.Location.{Location}
 use Rattle.geometry.specs.Layout.{slotSize, slotStart, locate}
-use Rattle.geometry.proofs.Slots.{slot-located, into-lt}
+use Rattle.geometry.proofs.Slots.{slot-located, located-at, into-lt}
 use Rattle.rules.specs.Inspected.{slotBytes, ClearAlike, ClearBytesAlike}
-use Rattle.rules.proofs.Damage.{clear-bit, bit-clear, byte-at, slot-at}
+use Rattle.rules.proofs.Damage.{clear-bit, bit-clear, slot-at}
 
 module _ (G : Layout) (m h h′ : List ℕ) where
   by-bytes : ClearAlike G m h h′ → ClearBytesAlike G m h h′
   by-bytes same x some clear =
       let l : Location = locate G x in
       let byte : (y : List ℕ) → getD (slotBytes G y (l .class) (l .slot)) (l .into) 0 ≡ getD y x 0 = λ y.
-      slot-at G y (l .class) (l .slot) (l .into) (into-lt G x some) ∙ ap (λ (n : ℕ). getD y n 0) (sym (byte-at G x)) in
+      slot-at G y (l .class) (l .slot) (l .into) (into-lt G x some) ∙ ap (λ (n : ℕ). getD y n 0) (sym (located-at G x)) in
       sym (byte h)
       ∙ ap (λ (s : List ℕ). getD s (l .into) 0) (same (l .class) (l .slot) some (omega (arith, clear-bit G m (l .class) (l .slot) some clear)))
       ∙ byte h′

@@ -14,7 +14,7 @@ use Rattle.geometry.specs.declared.Layout.{Layout}
 use Rattle.geometry.specs.declared.Location.{Location}
 use Rattle.geometry.specs.Layout.{classes, regionOf, layoutOf, heapLength, slotSize, slots, slotStart, locate, metadataLength}
 use Rattle.geometry.proofs.Geometry.{laid, bitmap-after}
-use Rattle.geometry.proofs.Slots.{slot-located, into-lt}
+use Rattle.geometry.proofs.Slots.{slot-located, located-at, into-lt}
 use Rattle.request.specs.declared.Request.the-variants.{Allocate, Free, Remaining, Copy, Read}
 use Rattle.request.specs.Parse.{parse}
 use Rattle.request.specs.declared.Parsed.{Parsed}
@@ -40,7 +40,7 @@ use Rattle.rules.proofs.Effects.{liveBit, Valid, fresh-valid, Changed, 
 use Rattle.rules.proofs.Results.{Comes, refuses, serves, allocate-comes, free-comes, remaining-comes, copy-comes, read-comes}
 use Rattle.rules.proofs.Results.{result, result-valid, valid-admits, valid-acts}
 use Rattle.rules.proofs.Metadata.{generator-length, canary-written}
-use Rattle.rules.proofs.Damage.{clear-bit, bit-clear, byte-at, slot-inside, hits-damaged}
+use Rattle.rules.proofs.Damage.{clear-bit, bit-clear, slot-inside, hits-damaged}
 use Rattle.rules.proofs.Inspecting.{inspection-laid}
 use Rattle.rules.proofs.Undisturbed.{undisturbed-keeps}
 use Rattle.rules.proofs.Serving.{has-layout, opened-by}
@@ -55,7 +55,7 @@ Intact G m h =
 
 -- a byte of a slot lies in the heap
 byte-inside : (G : Layout) (x : ℕ) → locate G x .slot < slots G (locate G x .class) → x < heapLength G
-byte-inside G x some = omega (arith, byte-at G x, into-lt G x some, slot-inside G (locate G x .class) (locate G x .slot) some)
+byte-inside G x some = omega (arith, located-at G x, into-lt G x some, slot-inside G (locate G x .class) (locate G x .slot) some)
 
 -- ---- a slot that turns
 
@@ -98,7 +98,7 @@ module _ (G : Layout) (m m′ : List ℕ) {c i v : ℕ} (now : Changed G m m′ 
           → getD (overwrite h start part) x 0 ≡ canaryByte (canaryOf m′) (l .into)
       go x some clear (yes (p, q)) =
           let here : slotStart G (locate G x .class) (locate G x .slot) ≡ start = ap₂ (slotStart G) p q in
-          let at : x ≡ start + locate G x .into = byte-at G x ∙ ap (λ (n : ℕ). n + locate G x .into) here in
+          let at : x ≡ start + locate G x .into = located-at G x ∙ ap (λ (n : ℕ). n + locate G x .into) here in
           let inside : locate G x .into < slotSize G c = omega (arith, into-lt G x some, ap (slotSize G) p) in
           let into : x - start ≡ locate G x .into = omega (arith, at) in
           at-written h start part room x 0 (omega (arith, at)) (omega (arith, at, size))
@@ -133,7 +133,7 @@ module _ (G : Layout) (m h : List ℕ) (intact : Intact G m h) (fits : length h 
           let l : Location = locate G offset in
           let some : l .slot < slots G (l .class) = is-set (bitmapOf G (l .class) m) (slots G (l .class)) (l .slot) e .0 in
           let few : length bytes ≤ slotSize G (l .class) - l .into = rw e at short in
-          let at : offset ≡ slotStart G (l .class) (l .slot) + l .into = byte-at G offset in
+          let at : offset ≡ slotStart G (l .class) (l .slot) + l .into = located-at G offset in
           let into : l .into < slotSize G (l .class) = into-lt G offset some in
           let room : offset + length bytes ≤ length h = omega (arith, slot-inside G (l .class) (l .slot) some) in (
             overwrite-length h offset bytes room,
@@ -197,7 +197,7 @@ intact-undamaged G m h intact x d =
     let (class, slot) = slot-located G (d .class) (d .slot) y (d .exists) (omega arith) (omega (arith, d .within)) in
     let some : locate G y .slot < slots G (locate G y .class) = rw (slot, class) (d .exists) in
     let start : slotStart G (locate G y .class) (locate G y .slot) ≡ slotStart G (d .class) (d .slot) = ap₂ (slotStart G) class slot in
-    let into : locate G y .into ≡ d .byte = omega (arith, byte-at G y, start) in
+    let into : locate G y .into ≡ d .byte = omega (arith, located-at G y, start) in
     let same : getD h y 0 ≡ canaryByte (canaryOf m) (d .byte) =
     intact y some (rw (slot, class) (bit-clear G m (d .class) (d .slot) (d .exists) (d .clear))) ∙ ap (canaryByte (canaryOf m)) into in
     d .differs (rw (d .start) same)

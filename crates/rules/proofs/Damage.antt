@@ -1,9 +1,9 @@
 -- An inspection's hits are exactly the clear slots that hold a byte other than the canary's.
-use Prim.Native.Nat.{ℕ, suc, _+_, _%_, _<_, _≤_}
+use Prim.Native.Nat.{ℕ, suc, _+_, _<_, _≤_}
 use mathlib.Core.Path.{_≡_, sym, ap, subst, _∙_}
 use mathlib.Core.Bool.{true, false, not, _&&_, and-false, and-eq-true-iff}
 use mathlib.Core.List.{List}
-use native.Mathlib.Nat.{div-add-mod', suc-mul}
+use native.Mathlib.Nat.{suc-mul}
 use native.Mathlib.Omega.{arith}
 use borrow.Author.Tests.{eqb-true, eqb-false, ltb-true, not-true, ne-eqb, lt-ltb}
 use lib.Dec.{eqb, ltb}
@@ -31,10 +31,6 @@ module _ (G : Layout) (m : List ℕ) (c i : ℕ) (slot : i < slots G c) where
 
   pub bit-clear : bit (bitmapOf G c m) i ≡ 0 → isSet (bitmapOf G c m) (slots G c) i ≡ false
   bit-clear e = rw e (and-false (ltb i (slots G c)))
-
--- an offset, by where it lies
-pub byte-at : (G : Layout) (x : ℕ) → x ≡ slotStart G (locate G x .class) (locate G x .slot) + locate G x .into
-byte-at G x = omega (arith, div-add-mod' x (G .region), div-add-mod' (x % G .region) (slotSize G (locate G x .class)))
 
 -- a slot ends within the heap
 pub slot-inside : (G : Layout) (c i : ℕ) → i < slots G c → slotStart G c i + slotSize G c ≤ heapLength G

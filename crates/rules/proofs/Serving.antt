@@ -91,17 +91,21 @@ module _ (n : ℕ) (m : List ℕ) where
     unfolding admit
     admit-laid e = rw (laid, e)
 
-  -- a layout that a request goes by is the heap's, and all fits it
-  pub admit-fits : {G : Layout} → admit n m ≡ Laid G → (G ≡ layoutOf n) × Fits G n (length m)
-  admit-fits {G} e = go (judge n (length m)) refl
+  -- the layout that a request goes by is that of the lengths
+  pub admitted-laid : {G : Layout} → admit n m ≡ Laid G → judge n (length m) ≡ Laid G
+  admitted-laid {G} e = go (judge n (length m)) refl
     where
-      go : (j : Judged) → judge n (length m) ≡ j → (G ≡ layoutOf n) × Fits G n (length m)
+      go : (j : Judged) → judge n (length m) ≡ j → judge n (length m) ≡ Laid G
       go (Unfit r) f = absurd (unfit-laid (sym (admit-unfit f) ∙ e))
       go (Laid F) f = counted (anyOver F m) refl
         where
-          counted : (t : Bool) → anyOver F m ≡ t → (G ≡ layoutOf n) × Fits G n (length m)
+          counted : (t : Bool) → anyOver F m ≡ t → judge n (length m) ≡ Laid G
           counted true o = absurd (unfit-laid (sym (admit-over f o) ∙ e))
-          counted false o = laid-fits n (length m) (f ∙ sym (admit-laid f o) ∙ e)
+          counted false o = f ∙ sym (admit-laid f o) ∙ e
+
+  -- it is the heap's, and all fits it
+  pub admit-fits : {G : Layout} → admit n m ≡ Laid G → (G ≡ layoutOf n) × Fits G n (length m)
+  admit-fits e = laid-fits n (length m) (admitted-laid e)
 
 module _ (n : ℕ) (m : List ℕ) (beside : Lent) (asked : Parsed) where
   -- then the request is acted on
