@@ -54,7 +54,7 @@ fn assemble_input() -> u8
         if status == FAILED {
             return status;
         }
-        if got.count == 0 {
+        if got.ended() {
             return status;
         }
         kept = turn.kept;

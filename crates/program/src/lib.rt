@@ -9,7 +9,9 @@ use libc::STDOUT_FILENO;
 ghost use mathlib.Core.Path.{_≡_};
 ghost use mathlib.Core.Bool.{true, cond};
 ghost use Prim.Native.Nat.{_≤_};
+ghost use lib.Dec.{eqb};
 ghost use lib.ListN.{length};
+ghost use Rattle.program.specs.Got.{gotOf};
 
 pub const DONE: u8 = 0;
 
@@ -24,13 +26,20 @@ pub struct Got {
     pub count: usize,
 }
 
-// Reads from standard input, or says that `place` failed. How many bytes came, and which, the system decides.
-pub fn read(input: &mut [u8], place: &[u8]) -> Got
-    ensures { λ r. ⌜ (r .count ≤ length (now (input .exit))) × (r .count ≡ cond (r .failed) 0 (r .count)) ⌝ }
+impl Got {
+    // A read that brought nothing found the end of the input.
+    pub fn ended(self) -> bool
+        ensures { λ r. ⌜ r ≡ eqb (self .count) 0 ⌝ }
+    {
+        self.count == 0
+    }
+}
+
+// What the system's answer to a read into the input comes to.
+fn told(answer: isize, input: &[u8]) -> Got
+    ensures { λ r. ⌜ r ≡ gotOf answer (length (now (input .entry))) ⌝ }
 {
-    let got = libc::read(STDIN_FILENO, input);
-    if got < 0 {
-        os::fail(place);
+    if answer < 0 {
         return Got {
             failed: true,
             count: 0,
@@ -38,8 +47,19 @@ pub fn read(input: &mut [u8], place: &[u8]) -> Got
     }
     Got {
         failed: false,
-        count: io::count(got, input),
+        count: io::count(answer, input),
     }
+}
+
+// Reads from standard input, or says that `place` failed. How many bytes came, and which, the system decides.
+pub fn read(input: &mut [u8], place: &[u8]) -> Got
+    ensures { λ r. ⌜ (r .count ≤ length (now (input .exit))) × (r .count ≡ cond (r .failed) 0 (r .count)) ⌝ }
+{
+    let got = told(libc::read(STDIN_FILENO, input), input);
+    if got.failed {
+        os::fail(place);
+    }
+    got
 }
 
 // Writes all of a text to standard output and answers true, or says that `place` failed and answers false. Which it is,
