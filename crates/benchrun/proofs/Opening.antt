@@ -1,4 +1,4 @@
--- The opening of a bench run is served: it leaves fresh metadata, and the pattern in every slot.
+-- The opening is served: it leaves fresh metadata, and the pattern in every slot.
 use Prim.Native.Nat.{ℕ}
 use native.Mathlib.Omega.{arith}
 use mathlib.Core.Path.{_≡_, refl}
@@ -9,7 +9,7 @@ use Rattle.mwc.specs.Draw.{isOneOf}
 use Rattle.geometry.specs.Layout.{regionOf, bitmapAt, slotSize}
 use Rattle.rules.specs.Call.{opening, openedBy}
 use Rattle.rules.proofs.Serving.{right-lengths, opening-served}
-use Rattle.benchrun.specs.Bench.{layout, heapBytes, metadataBytes, given}
+use Rattle.benchrun.specs.Replay.{layout, heapBytes, metadataBytes, given}
 
 -- the length that the program's array has
 pub metadata-bytes : metadataBytes ≡ 190
@@ -20,6 +20,6 @@ region-found : regionOf heapBytes ≡ 4096
 unfolding first
 region-found = refl
 
-pub bench-opens : (m : List ℕ) → length m ≡ metadataBytes → opening heapBytes m given ≡ openedBy layout given
+pub replay-opens : (m : List ℕ) → length m ≡ metadataBytes → opening heapBytes m given ≡ openedBy layout given
 unfolding first isOneOf
-bench-opens m e = opening-served heapBytes m given (right-lengths heapBytes (length m) (λ z. omega (arith, region-found)) e) refl
+replay-opens m e = opening-served heapBytes m given (right-lengths heapBytes (length m) (λ z. omega (arith, region-found)) e) refl

@@ -14,7 +14,7 @@ use Rattle.replay.specs.Line.{lineRoom}
 use Rattle.replay.specs.Batch.{replay, requests, batchOf}
 use Rattle.replay.specs.Pieces.{ready, rest, replayAll}
 use Rattle.replay.proofs.Cutting.{batch-all}
-use Rattle.benchrun.specs.Bench.{inputRoom, requestsRoom, Room}
+use Rattle.benchrun.specs.Replay.{inputRoom, requestsRoom, Room}
 
 -- k requests have k numbers
 replay-next : (k : ℕ) (s : State) (number : ℕ) (input : List ℕ) → replay [] k s number input .next ≡ number + k

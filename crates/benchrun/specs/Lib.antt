@@ -1,1 +1,1 @@
-pub mod Bench
+pub mod Replay

@@ -1,6 +1,5 @@
 // Replays requests from standard input on a heap with regions of 4,096 bytes, opened with z = 1, w = 1 and four zero
 // bytes as the pattern, and prints a line for each.
-use libc::STDERR_FILENO;
 use program::DONE;
 use program::FAILED;
 use program::Got;
@@ -19,7 +18,7 @@ ghost use Rattle.rules.specs.Call.{stateOf};
 ghost use Rattle.replay.specs.Batch.{Batch};
 ghost use Rattle.replay.specs.Opened.{openedState};
 ghost use Rattle.replay.specs.Pieces.{ready, rest, replayAll};
-ghost use Rattle.benchrun.specs.Bench.{heapBytes, metadataBytes, given, firstNumber, requestsRoom, Room};
+ghost use Rattle.benchrun.specs.Replay.{heapBytes, metadataBytes, given, firstNumber, requestsRoom, Room};
 
 // The bytes of the heap and of its metadata.
 const HEAP: usize = 49152;
@@ -158,7 +157,7 @@ fn main() {
         Choice::Run => serve_input(),
         Choice::Help => {
             let shown = program::print(
-                b"usage: benchrun < REQUESTS\n\
+                b"usage: benchrun < REQUESTS, benchrun --help or benchrun --version\n\
                 \n\
                 Serves requests on a heap of 49152 bytes that was opened with z = 1, w = 1 and four zero bytes as\n\
                 the pattern.\n\
@@ -174,8 +173,12 @@ fn main() {
             );
             if shown { DONE } else { FAILED }
         }
-        Choice::Unknown => {
-            io::write_all(STDERR_FILENO, b"benchrun: unknown argument; see --help\n");
+        Choice::Version => {
+            let shown = program::print_version(b"benchrun", b"benchrun: standard output");
+            if shown { DONE } else { FAILED }
+        }
+        Choice::Unknown(word) => {
+            program::refuse(b"benchrun", word);
             FAILED
         }
     };

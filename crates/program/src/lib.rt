@@ -4,6 +4,8 @@
 // What is written, no contract can say.
 pub mod arguments;
 
+use libc::ENAMETOOLONG;
+use libc::STDERR_FILENO;
 use libc::STDIN_FILENO;
 use libc::STDOUT_FILENO;
 ghost use mathlib.Core.Path.{_≡_};
@@ -11,6 +13,7 @@ ghost use mathlib.Core.Bool.{true, cond};
 ghost use Prim.Native.Nat.{_≤_};
 ghost use lib.Dec.{eqb};
 ghost use lib.ListN.{length};
+ghost use Rattle.program.specs.Asked.{argumentRoom};
 ghost use Rattle.program.specs.Got.{gotOf};
 
 pub const DONE: u8 = 0;
@@ -75,6 +78,39 @@ pub fn print(text: &[u8], place: &[u8]) -> bool
         os::fail(place);
     }
     written
+}
+
+// Prints a program's name and the version, that of include/poheldu.h.
+pub fn print_version(name: &[u8], place: &[u8]) -> bool {
+    if !print(name, place) {
+        return false;
+    }
+    print(b" 0.1.0\n", place)
+}
+
+// More bytes of an argument than are shown.
+const ARGUMENT: usize = quoting::SHOWN + 1;
+
+// How many bytes of a buffer hold an argument: of one that is longer than the buffer, all.
+fn held(got: usize, cut: bool) -> usize
+    requires { ⌜ got ≤ argumentRoom ⌝ }
+    ensures { λ r. ⌜ (r ≡ cond cut argumentRoom got) × (r ≤ argumentRoom) ⌝ }
+{
+    if cut { ARGUMENT } else { got }
+}
+
+// Says that a word of the arguments is unknown: its start, between quotes.
+pub fn refuse(name: &[u8], word: usize) {
+    let mut argument = [0u8; ARGUMENT];
+    let got = os::arg(word, &mut argument);
+    let len = held(got, os::errno() == ENAMETOOLONG);
+    let shown = quoting::quoted(&argument[0..len]);
+    let text = shown.text;
+    let shown_len = shown.len;
+    io::write_all(STDERR_FILENO, name);
+    io::write_all(STDERR_FILENO, b": unknown argument ");
+    io::write_all(STDERR_FILENO, &text[0..shown_len]);
+    io::write_all(STDERR_FILENO, b"; see --help\n");
 }
 
 // Tells the launcher a status other than 0, where it wants one.

@@ -1,4 +1,4 @@
--- `open` opens with what a bench run gives.
+-- `open` opens with what is given.
 use borrow.Author.Needs.{needs}
 use Rattle.benchrun.proofs.open.Statement.{statement}
 use Rattle.benchrun.proofs.open.Tie as tie

@@ -7,7 +7,7 @@ use mathlib.Core.Logic.{inl, inr}
 use mathlib.Core.List.{List}
 use lib.ListN.{length}
 use Rattle.request.specs.Parse.{requestSize}
-use Rattle.benchrun.specs.Bench.{heapBytes, firstNumber, inputRoom, requestsRoom}
+use Rattle.benchrun.specs.Replay.{heapBytes, firstNumber, inputRoom, requestsRoom}
 use Rattle.benchrun.specs.declared.Turn.{Turn}
 use Rattle.benchrun.proofs.Opening.{metadata-bytes}
 use Rattle.benchrun.proofs.serve_input.Statement.{statement}

@@ -1,4 +1,4 @@
--- A bench run: what it opens with, and how much it reads at a time.
+-- What benchrun opens with, and how much it reads at a time.
 use Prim.Native.Nat.{ℕ, _+_, _*_, _/_, _^_, _<_, _≤_}
 use mathlib.Core.List.{List, [], _∷_}
 use lib.ListN.{length}
