@@ -2,11 +2,12 @@
 use Prim.Native.Nat.{ℕ}
 use native.Mathlib.Omega.{arith}
 use mathlib.Core.Path.{_≡_, refl}
-use mathlib.Core.List.{List}
-use lib.ListN.{length}
+use mathlib.Core.List.{List, _∷_}
+use lib.ListN.{length, replicate}
 use Rattle.search.specs.First.{first}
 use Rattle.mwc.specs.Draw.{isOneOf}
 use Rattle.geometry.specs.Layout.{regionOf, bitmapAt, slotSize}
+use Rattle.rules.specs.Open.{fresh}
 use Rattle.rules.specs.Call.{opening, openedBy}
 use Rattle.rules.proofs.Serving.{right-lengths, opening-served}
 use Rattle.benchrun.specs.Replay.{layout, heapBytes, metadataBytes, given}
@@ -23,3 +24,8 @@ region-found = refl
 pub replay-opens : (m : List ℕ) → length m ≡ metadataBytes → opening heapBytes m given ≡ openedBy layout given
 unfolding first isOneOf
 replay-opens m e = opening-served heapBytes m given (right-lengths heapBytes (length m) (λ z. omega (arith, region-found)) e) refl
+
+-- that metadata, byte by byte: z, w, and zeros, the pattern among them
+opened-bytes : fresh layout given ≡ 1 ∷ 0 ∷ 0 ∷ 0 ∷ 1 ∷ replicate 185 0
+unfolding bitmapAt slotSize
+opened-bytes = refl
