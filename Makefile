@@ -4,11 +4,12 @@
 # make lib      target/libpoheldu.a, proved, for C programs with include/poheldu.h
 # make fuzz     runs of calls held against the second implementation, for FUZZ_SECONDS (60); wants clang
 # make soak     the differential test for SOAK_CALLS (100000000) calls, from a seed that it prints; SEED=N repeats one
-# make expected writes what benchrun and conformance must print (crates/*/stdout) anew, by the second implementation
+# make cases    writes the input of conformance (crates/conformance/stdin) anew, from the cases of tests/conformance/*.txt
+# make expected writes what benchrun and conformance must print (crates/*/stdout) anew, by the second implementation, after make cases
 # make table    writes the table of classes (crates/geometry/src/table.rt) anew by its rule, programs/table
 # make bench    ratios against the second implementation, memcpy, memset, memcmp and malloc
 # make instructions  how many instructions a request takes; wants valgrind
-.PHONY: run programs test lib fuzz fuzz-tools soak expected table bench instructions
+.PHONY: run programs test lib fuzz fuzz-tools soak cases expected table bench instructions
 
 FUZZ_SECONDS ?= 60
 FUZZ_SOURCES = $(filter-out tests/fuzz/driver.c,$(wildcard tests/fuzz/*.c))
@@ -41,6 +42,7 @@ target/staticlib/libcapi.a: $(library_sources)
 
 # The search is guided by what runs in the second implementation and the harness, which are built for that; the library is as it is.
 fuzz: fuzz-tools lib
+	@programs/wanted cargo
 	cd tests && cargo rustc --release --offline --quiet --lib --target-dir ../target/tests/fuzz -- $(FUZZ_COVERAGE)
 	clang -std=c11 -Wall -Wextra -Werror -g -O1 -fsanitize=fuzzer -Iinclude $(FUZZ_SOURCES) \
 		target/tests/fuzz/release/libpoheldu_tests.a target/staticlib/libcapi.a -o target/fuzz
@@ -52,11 +54,16 @@ fuzz-tools:
 		{ echo "make fuzz: clang and its libFuzzer are wanted (Debian packages clang and libclang-rt-14-dev)"; exit 1; }
 
 soak: lib
+	@programs/wanted cargo
 	@cd tests && cargo build --release --offline --quiet
 	@target/tests/release/differential --calls $(SOAK_CALLS) $(if $(SEED),--seed $(SEED)) --progress
 
-expected: lib
+cases: lib
+	@programs/wanted cargo
 	cd tests && cargo build --release --offline --quiet
+	target/tests/release/cases tests/conformance/*.txt > target/cases && cp target/cases crates/conformance/stdin
+
+expected: cases
 	target/tests/release/expected < crates/benchrun/stdin > crates/benchrun/stdout
 	target/tests/release/conformance < crates/conformance/stdin > crates/conformance/stdout
 
@@ -64,6 +71,7 @@ table:
 	@mkdir -p target && programs/table > target/table.rt && cp target/table.rt crates/geometry/src/table.rt
 
 bench: lib
+	@programs/wanted cargo
 	@programs/prove check benchrun
 	@cd tests && cargo build --release --offline --quiet
 	@target/tests/release/bench target/bin/benchrun
@@ -78,20 +86,17 @@ instructions: lib
 .PHONY: install uninstall clean help
 .DEFAULT_GOAL := help
 
-# poheldu.pc names an absolute folder, and the version that the header's macros say.
+# poheldu.pc names an absolute folder, and the version that the header's macros say. A folder's name may have spaces in it, so that it is handled by
+# the shell alone.
 PREFIX ?= /usr/local
-prefix = $(abspath $(PREFIX))
+export PREFIX DESTDIR
 version = $(shell sed -n 's/^.define POHELDU_VERSION_[A-Z]* \([0-9]\)/\1/p' include/poheldu.h | paste -sd .)
 
 install: lib
-	install -d "$(DESTDIR)$(prefix)/include" "$(DESTDIR)$(prefix)/lib/pkgconfig"
-	install -m 644 include/poheldu.h "$(DESTDIR)$(prefix)/include/poheldu.h"
-	install -m 644 target/libpoheldu.a "$(DESTDIR)$(prefix)/lib/libpoheldu.a"
-	sed 's|@PREFIX@|$(prefix)|; s|@VERSION@|$(version)|' include/poheldu.pc.in > target/poheldu.pc
-	install -m 644 target/poheldu.pc "$(DESTDIR)$(prefix)/lib/pkgconfig/poheldu.pc"
+	@programs/install "$(version)"
 
 uninstall:
-	rm -f "$(DESTDIR)$(prefix)/include/poheldu.h" "$(DESTDIR)$(prefix)/lib/libpoheldu.a" "$(DESTDIR)$(prefix)/lib/pkgconfig/poheldu.pc"
+	@programs/install --remove
 
 clean:
 	rm -rf target

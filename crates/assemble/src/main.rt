@@ -54,7 +54,7 @@ fn assemble_input() -> u8
         if status == FAILED {
             return status;
         }
-        if got.count == 0 {
+        if got.ended() {
             return status;
         }
         kept = turn.kept;
@@ -78,7 +78,7 @@ fn main() {
         Choice::Run => assemble_input(),
         Choice::Help => {
             let shown = program::print(
-                b"usage: assemble < LINES > REQUESTS\n\
+                b"usage: assemble < LINES > REQUESTS, assemble --help or assemble --version\n\
                 \n\
                 Turns lines of text into requests of 16 bytes, as benchrun reads them.\n\
                 \n\
@@ -93,8 +93,12 @@ fn main() {
             );
             if shown { DONE } else { FAILED }
         }
-        Choice::Unknown => {
-            io::write_all(STDERR_FILENO, b"assemble: unknown argument; see --help\n");
+        Choice::Version => {
+            let shown = program::print_version(b"assemble", b"assemble: standard output");
+            if shown { DONE } else { FAILED }
+        }
+        Choice::Unknown(word) => {
+            program::refuse(b"assemble", word);
             FAILED
         }
     };

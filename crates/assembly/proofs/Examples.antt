@@ -10,7 +10,8 @@ use Rattle.line.specs.Number.{more, withDigits, number}
 use Rattle.line.specs.Line.{operationOf, request, counted, operands, statement, readText}
 use Rattle.assembly.specs.Batch.{linesFrom, restFrom, lines, rest, messagesOf}
 use Rattle.assembly.specs.Pieces.{whole}
-use Rattle.assembly.specs.Message.{shownByte, shown, found, said, expectedOf, foundIn, expectedRoom, foundRoom}
+use Rattle.assembly.specs.Message.{found, said, expectedOf, foundIn, expectedRoom, foundRoom}
+use Rattle.quoting.specs.Quoted.{shownByte, quoted}
 use Rattle.decimal.specs.Decimal.{decimalIn}
 
 two-lines : lines (bytes "place 5\n\nfree") ≡ bytes "place 5" ∷ [] ∷ []
@@ -32,7 +33,7 @@ bad-lines-named : messagesOf 9
     ∷ "line 13: expected nothing after the numbers, found \"two\"\n"
     ∷ []))
 unfolding bytes first alike indexOf indexAfter isBlank nextWord trimmedEnd more withDigits number operationOf
-    request counted operands statement readText messagesOf expectedOf foundIn found shown shownByte said decimalIn whole
+    request counted operands statement readText messagesOf expectedOf foundIn found quoted shownByte said decimalIn whole
 bad-lines-named = refl
 
 long-line-named : messagesOf 1 (replicate 256 32 ∷ []) ≡ bytes "line 1: expected at most 255 bytes, found more\n"
@@ -49,7 +50,7 @@ words-shown : map (λ w. found (bytes w))
     ∷ "\"!a?~\"\n"
     ∷ "\"a?b\"\n"
     ∷ [])
-unfolding bytes found shown shownByte
+unfolding bytes found quoted shownByte
 words-shown = refl
 
 -- the longest texts have their room and no more
@@ -58,5 +59,5 @@ unfolding bytes
 longest-expected = refl
 
 longest-found : length (found (replicate 25 65)) ≡ foundRoom
-unfolding bytes found shown shownByte
+unfolding bytes found quoted shownByte
 longest-found = refl

@@ -1,31 +1,18 @@
 -- What is said of a bad line.
 use Prim.Native.Nat.{ℕ, _+_}
-use mathlib.Core.Bool.{_&&_, cond}
-use mathlib.Core.List.{List, [], _++_, map}
-use lib.ListN.{length, take}
-use lib.Dec.{leb, eqb}
+use mathlib.Core.Bool.{cond}
+use mathlib.Core.List.{List, [], _++_}
+use lib.ListN.{length}
+use lib.Dec.{eqb}
 use Rattle.decimal.specs.Decimal.{width, decimal}
+use Rattle.quoting.specs.Quoted.{quoted, quotedRoom}
 use Rattle.line.specs.Text.{bytes, wordAt}
 use Rattle.line.specs.declared.Line.{Line}
 use Rattle.line.specs.declared.Line.the-variants.{Request, Nothing, BadOperation, BadNumber, TrailingText, TooLong}
 
--- how many bytes of a word are shown
-abbrev pub shownMost : ℕ
-shownMost = 24
-
--- a byte as it is shown: printable ASCII as it is, and a question mark for any other
-unfoldable pub shownByte : ℕ → ℕ
-shownByte b = cond (leb 33 b && leb b 126) b 63
-
--- a word between quotes; dots after them say that it is longer
-unfoldable pub shown : List ℕ → List ℕ
-shown word =
-    let close : List ℕ = cond (leb (length word) shownMost) (bytes "\"\n") (bytes "\"...\n") in
-    bytes "\"" ++ (map shownByte (take shownMost word) ++ close)
-
 -- what stands where something else was expected
 unfoldable pub found : List ℕ → List ℕ
-found word = cond (eqb (length word) 0) (bytes "the end of the line\n") (shown word)
+found word = cond (eqb (length word) 0) (bytes "the end of the line\n") (quoted word ++ bytes "\n")
 
 -- a text that is said of the line with a number
 unfoldable pub said : ℕ → List ℕ → List ℕ
@@ -59,7 +46,7 @@ abbrev pub expectedRoom : ℕ
 expectedRoom = 68
 
 abbrev pub foundRoom : ℕ
-foundRoom = 1 + (shownMost + 5)
+foundRoom = quotedRoom + 1
 
 abbrev pub messageRoom : ℕ
 messageRoom = 5 + (width + (expectedRoom + foundRoom))

@@ -1,23 +1,18 @@
 // Requests and messages, written one after another.
 use line::Line;
-use numbers::least;
 ghost use Prim.Native.Nat.{_+_, _≤_};
-ghost use mathlib.Core.List.{map};
 ghost use mathlib.Core.Path.{_≡_};
-ghost use lib.ListN.{length, take};
+ghost use lib.ListN.{length};
 ghost use Rattle.request.specs.Parse.{requestSize};
 ghost use Rattle.line.specs.Line.{requestOf};
 ghost use Rattle.assembly.specs.Put.{Put};
-ghost use Rattle.assembly.specs.Message.{shownMost, shownByte, found, said, expectedOf, messageOf};
+ghost use Rattle.assembly.specs.Message.{found, said, expectedOf, messageOf};
 ghost use Rattle.assembly.specs.Message.{expectedRoom, foundRoom, messageRoom};
 
-// How many bytes of a word are shown.
-const SHOWN: usize = 24;
-
-// The longest text of what was expected, and of what is found: a word between quotes, and dots after them.
+// The longest text of what was expected, and of what is found: a word between quotes, and a line end.
 pub(crate) const EXPECTED: usize = 68;
 
-pub(crate) const FOUND: usize = 1 + SHOWN + 5;
+pub(crate) const FOUND: usize = quoting::ROOM + 1;
 
 // Writes a text at a place, and answers the place after it.
 fn put(text: &[u8], out: &mut [u8], at: usize) -> usize
@@ -29,35 +24,6 @@ fn put(text: &[u8], out: &mut [u8], at: usize) -> usize
     end
 }
 
-fn shown_byte(byte: u8) -> u8
-    ensures { λ r. ⌜ r ≡ shownByte byte ⌝ }
-{
-    if byte < b'!' {
-        return b'?';
-    }
-    if b'~' < byte {
-        return b'?';
-    }
-    byte
-}
-
-// Writes the start of a word.
-fn put_shown(word: &[u8], out: &mut [u8], at: usize) -> usize
-    requires { ⌜ at + shownMost ≤ length (now out) ⌝ }
-    ensures { λ r. ⌜ r ≤ at + shownMost ⌝ }
-    ensures { λ r.
-        let text = map shownByte (take shownMost (now (word .entry))) in
-        ⌜ Put (now (out .entry)) at text r (now (out .exit)) ⌝ }
-{
-    let count = least(SHOWN, word.len());
-    let mut i: usize = 0;
-    while i < count {
-        out[at + i] = shown_byte(word[i]);
-        i += 1;
-    }
-    at + i
-}
-
 // Writes the start of a word between quotes, or that the line has ended.
 fn put_found(word: &[u8], out: &mut [u8], at: usize) -> usize
     requires { ⌜ at + foundRoom ≤ length (now out) ⌝ }
@@ -67,12 +33,11 @@ fn put_found(word: &[u8], out: &mut [u8], at: usize) -> usize
     if word.len() == 0 {
         return put(b"the end of the line\n", out, at);
     }
-    let first = put(b"\"", out, at);
-    let second = put_shown(word, out, first);
-    if word.len() <= SHOWN {
-        return put(b"\"\n", out, second);
-    }
-    put(b"\"...\n", out, second)
+    let shown = quoting::quoted(word);
+    let text = shown.text;
+    let len = shown.len;
+    let end = put(&text[0..len], out, at);
+    put(b"\n", out, end)
 }
 
 // Names a line by its number, and says the text of it.

@@ -1,12 +1,9 @@
--- What the header of a case says, and what its opening leaves.
+-- What the header of a case says.
 use Prim.Native.Nat.{ℕ, _*_, min}
 use mathlib.Core.List.{List}
-use lib.ListN.{length}
 use Rattle.words.specs.Word.{wordAt}
 use Rattle.request.specs.Parse.{requestSize}
 use Rattle.geometry.specs.Layout.{layoutOf, metadataLength}
-use Rattle.rules.specs.Open.{setup}
-use Rattle.rules.specs.Call.{Call, State, stateOf, opening}
 use Rattle.conformance.specs.declared.Case.{Case}
 
 -- room for the bytes of a heap, of its metadata and of a source, and for requests
@@ -35,9 +32,3 @@ caseOf header =
       source = min (wordAt header 16) sourceRoom;
       requests = requestSize * min (wordAt header 20) requestsRoom;
     }
-
--- what the requests are served on: the heap and the metadata as the opening leaves them
-abbrev pub openedState : List ℕ → List ℕ → ℕ → ℕ → ℕ → State
-openedState heap metadata z w canary =
-    let opened : Call = opening (length heap) metadata (setup z w canary) in
-    stateOf (opened .heap heap) (opened .metadata)

@@ -21,7 +21,8 @@ ghost use Rattle.request.specs.Parse.{requestSize};
 ghost use Rattle.rules.specs.Open.{setup};
 ghost use Rattle.rules.specs.Call.{State, stateOf, opening};
 ghost use Rattle.replay.specs.Batch.{Batch, batchOf};
-ghost use Rattle.conformance.specs.Case.{heapRoom, metadataRoom, sourceRoom, requestsRoom, caseOf, openedState};
+ghost use Rattle.replay.specs.Opened.{openedState};
+ghost use Rattle.conformance.specs.Case.{heapRoom, metadataRoom, sourceRoom, requestsRoom, caseOf};
 ghost use Rattle.conformance.specs.Digest.{digest};
 
 // Room for the bytes of a heap, of its metadata and of a source, and for requests.
@@ -109,7 +110,7 @@ fn run(
         let opened : Reply = opening (length (now (heap .entry))) (now (metadata .entry)) (setup z w canary) .answer in
         ⌜ _≡_ {A = Reply} (record { number = r .number; value = r .value }) opened ⌝ }
     ensures { λ r.
-        let s : State = openedState (now (heap .entry)) (now (metadata .entry)) z w canary in
+        let s : State = openedState (now (heap .entry)) (now (metadata .entry)) (setup z w canary) in
         let b : Batch = batchOf (now (source .entry)) (length (now (out .entry))) s 1 (now (requests .entry)) in
         ⌜ (r .written ≡ length (b .text))
         × (now (out .exit) ≡ overwrite (now (out .entry)) 0 (b .text))

@@ -1,2 +1,3 @@
 -- Laws of what arguments ask for.
 pub mod Choosing
+pub mod Reading

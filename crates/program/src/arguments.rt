@@ -1,13 +1,15 @@
-// What a program's arguments ask for: its work, or its help text; and whether the launcher of programs/launch.c wants
-// its status.
+// What a program's arguments ask for: its work, its help text or its version, or nothing that it knows; and whether the
+// launcher of programs/launch.c wants its status.
 ghost use mathlib.Core.Path.{_≡_};
-ghost use Prim.Native.Nat.{_-_};
-ghost use Rattle.program.specs.Asked.{choiceOf, askedOf};
+ghost use Prim.Native.Nat.{_<_};
+ghost use Rattle.program.specs.Asked.{aloneOf, choiceOf, askedOf};
 
+// Unknown is the word with this number.
 pub enum Choice {
     Run,
     Help,
-    Unknown,
+    Version,
+    Unknown(usize),
 }
 
 pub struct Asked {
@@ -15,20 +17,31 @@ pub struct Asked {
     pub choice: Choice,
 }
 
-// `count` words, of which `own` come before the first argument.
+// What word `own` asks for, which must be the last one.
+fn alone(count: usize, own: usize, choice: Choice) -> Choice
+    requires { ⌜ own < count ⌝ }
+    ensures { λ r. ⌜ r ≡ aloneOf count own choice ⌝ }
+{
+    if count - own != 1 {
+        return Choice::Unknown(own + 1);
+    }
+    choice
+}
+
+// `count` words, of which those from `own` on are the user's.
 fn chosen(count: usize, own: usize, argument: &[u8]) -> Choice
-    ensures { λ r. ⌜ r ≡ choiceOf (count - own) (now (argument .entry)) ⌝ }
+    ensures { λ r. ⌜ r ≡ choiceOf count own (now (argument .entry)) ⌝ }
 {
     if count <= own {
         return Choice::Run;
     }
-    if count - own != 1 {
-        return Choice::Unknown;
-    }
     if alike::same(argument, b"--help") {
-        return Choice::Help;
+        return alone(count, own, Choice::Help);
     }
-    Choice::Unknown
+    if alike::same(argument, b"--version") {
+        return alone(count, own, Choice::Version);
+    }
+    Choice::Unknown(own)
 }
 
 // `count` words, the program's name first, and the two after it, each empty where there is none.

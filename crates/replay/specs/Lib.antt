@@ -1,3 +1,4 @@
 pub mod Line
 pub mod Batch
 pub mod Pieces
+pub mod Opened

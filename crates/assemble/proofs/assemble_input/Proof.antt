@@ -90,12 +90,16 @@ answer-requires c κs = tt
 returns-2 : tie.Need-returns-2 Inv-loop μ-loop
 returns-2 c = omega arith
 
+ended-requires : tie.Need-ended-requires Inv-loop μ-loop
+ended-requires c κs = tt
+
 returns-3 : tie.Need-returns-3 Inv-loop μ-loop
 returns-3 c =
-    let r = c .before .before .before .before .before .before .before .before in
+    let a = c .before .before .before in
+    let r = a .before .before .before .before .before in
     let l = r .before .before .before .before .before .before .before .before in
     let s = l .before .before .before .before .before .loop in
-    status-within (s .status) _ (s .inv .status-known) (c .before .before .before .answer .ensures)
+    status-within (s .status) _ (s .inv .status-known) (a .answer .ensures)
 
 add-counter : tie.Need-add-counter Inv-loop μ-loop
 add-counter c = omega arith
@@ -105,7 +109,8 @@ loop-less c = omega arith
 
 loop-again : tie.Need-loop-again Inv-loop μ-loop
 loop-again c =
-    let t = c .before .before .before .before .before .before .before .before in
+    let a = c .before .before .before in
+    let t = a .before .before .before .before .before in
     let r = t .before .before .before .before .before .before .before .before in
     let l = r .before .before .before .before .before .loop in
     let size = same-len-mid (l .kept) (2048 - l .kept) (l .input) (r .before .read .last .0) (r .input2 .given) in
@@ -114,7 +119,7 @@ loop-again c =
       out-length = omega (arith, t);
       errors-length = omega (arith, t);
       few = omega (arith, t);
-      status-known = status-within (l .status) _ (l .inv .status-known) (c .before .before .before .answer .ensures);
+      status-known = status-within (l .status) _ (l .inv .status-known) (a .answer .ensures);
       some = omega (arith, r);
     }
 
@@ -146,6 +151,7 @@ assemble-input-spec =
     part-answer-end-2
     answer-requires
     returns-2
+    ended-requires
     returns-3
     add-counter
     loop-less

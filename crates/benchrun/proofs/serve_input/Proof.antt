@@ -1,29 +1,34 @@
--- `serve_input` is safe, ends, and answers a status. From turn to turn the arrays keep their lengths, and fewer bytes are kept than a request has.
-use Prim.Native.Nat.{ℕ, _+_, _-_, _^_, _<_}
+-- `serve_input` is safe, ends, and answers a status. From turn to turn the arrays keep their lengths, fewer bytes are kept than a request has, and
+-- each read has had its share of the line numbers.
+use Prim.Native.Nat.{ℕ, _+_, _-_, _*_, _^_, _<_, _≤_}
 use native.Mathlib.Omega.{arith}
-use mathlib.Core.Path.{_≡_, refl}
+use mathlib.Core.Path.{_≡_, refl, ap}
 use mathlib.Core.Logic.{inl, inr}
 use mathlib.Core.List.{List}
 use lib.ListN.{length}
-use borrow.Rule.Slice.PartMut.{same-len-mid}
+use Rattle.request.specs.Parse.{requestSize}
+use Rattle.benchrun.specs.Replay.{heapBytes, firstNumber, inputRoom, requestsRoom}
+use Rattle.benchrun.specs.declared.Turn.{Turn}
+use Rattle.benchrun.proofs.Opening.{metadata-bytes}
 use Rattle.benchrun.proofs.serve_input.Statement.{statement}
 use Rattle.benchrun.proofs.serve_input.Tie as tie
 
-record Kept (heap metadata input out : List ℕ) (kept turns : ℕ) : Type 0 where
-  heap-length : length heap ≡ 49152
+record Kept (heap metadata input out : List ℕ) (kept next reads : ℕ) : Type 0 where
+  heap-length : length heap ≡ heapBytes
   metadata-length : length metadata ≡ 190
-  input-length : length input ≡ 16384
+  input-length : length input ≡ inputRoom
   out-length : length out ≡ 65536
-  few : kept < 16
-  some : turns < 2 ^ 64
+  few : kept < requestSize
+  numbers : next ≤ 1 + requestsRoom * reads
+  some : reads ≤ 2 ^ 53
 
 abbrev Inv-loop : tie.InvT-loop
-Inv-loop heap₀ metadata₀ input₀ out₀ kept₀ number₀ t12 t13 counter₀ heap metadata input out kept number counter =
-    Kept heap metadata input out kept counter
+Inv-loop heap₀ metadata₀ input₀ out₀ turn₀ t9 counter₀ heap metadata input out turn counter =
+    Kept heap metadata input out (turn .kept) (turn .next) counter
 
 abbrev μ-loop : tie.MeasureT-loop
-μ-loop heap₀ metadata₀ input₀ out₀ kept₀ number₀ t12 t13 counter₀ heap metadata input out kept number counter =
-    2 ^ 64 - counter
+μ-loop heap₀ metadata₀ input₀ out₀ turn₀ t9 counter₀ heap metadata input out turn counter =
+    2 ^ 53 - counter
 
 slice-aggregate-open : tie.Need-slice-aggregate-open Inv-loop μ-loop
 slice-aggregate-open c = omega arith
@@ -32,34 +37,28 @@ slice-aggregate-open-2 : tie.Need-slice-aggregate-open-2 Inv-loop μ-loop
 slice-aggregate-open-2 c = omega arith
 
 open-requires : tie.Need-open-requires Inv-loop μ-loop
-open-requires c κs = tt
+open-requires c κs = (omega arith, omega (arith, metadata-bytes))
 
 large-buffer-requires : tie.Need-large-buffer-requires Inv-loop μ-loop
 large-buffer-requires c κs = tt
 
+start-requires : tie.Need-start-requires Inv-loop μ-loop
+start-requires c κs = tt
+
 loop-holds : tie.Need-loop-holds Inv-loop μ-loop
-loop-holds c = omega arith
+loop-holds c =
+    let kept : c .start .result .kept ≡ 0 = ap (λ (t : Turn). t .kept) (c .start .ensures) in
+    let next : c .start .result .next ≡ firstNumber = ap (λ (t : Turn). t .next) (c .start .ensures) in
+    omega arith
 
-sub-read : tie.Need-sub-read Inv-loop μ-loop
-sub-read c = omega arith
+slice-aggregate-read-behind : tie.Need-slice-aggregate-read-behind Inv-loop μ-loop
+slice-aggregate-read-behind c = omega arith
 
-part-input-start : tie.Need-part-input-start Inv-loop μ-loop
-part-input-start c = omega arith
-
-part-input-end : tie.Need-part-input-end Inv-loop μ-loop
-part-input-end c = omega arith
-
-slice-aggregate-read : tie.Need-slice-aggregate-read Inv-loop μ-loop
-slice-aggregate-read c = omega arith
-
-read-requires : tie.Need-read-requires Inv-loop μ-loop
-read-requires c κs = tt
+read-behind-requires : tie.Need-read-behind-requires Inv-loop μ-loop
+read-behind-requires c κs = omega arith
 
 returns : tie.Need-returns Inv-loop μ-loop
 returns c = inr refl
-
-add-end : tie.Need-add-end Inv-loop μ-loop
-add-end c = omega arith
 
 slice-aggregate-serve : tie.Need-slice-aggregate-serve Inv-loop μ-loop
 slice-aggregate-serve c = omega arith
@@ -67,24 +66,14 @@ slice-aggregate-serve c = omega arith
 slice-aggregate-serve-2 : tie.Need-slice-aggregate-serve-2 Inv-loop μ-loop
 slice-aggregate-serve-2 c = omega arith
 
-sub-serve : tie.Need-sub-serve Inv-loop μ-loop
-sub-serve c = omega arith
-
-part-input-start-2 : tie.Need-part-input-start-2 Inv-loop μ-loop
-part-input-start-2 c = omega arith
-
-part-input-end-2 : tie.Need-part-input-end-2 Inv-loop μ-loop
-part-input-end-2 c =
-    let r = c .before .before .before .before in
-    let l = r .before .before .before .before .before .loop in
-    let size = same-len-mid (l .kept) (16384 - l .kept) (l .input) (r .before .read .last .0) (r .input2 .given) in
-    omega (arith, size)
-
 slice-aggregate-serve-3 : tie.Need-slice-aggregate-serve-3 Inv-loop μ-loop
 slice-aggregate-serve-3 c = omega arith
 
+slice-aggregate-serve-4 : tie.Need-slice-aggregate-serve-4 Inv-loop μ-loop
+slice-aggregate-serve-4 c = omega arith
+
 serve-requires : tie.Need-serve-requires Inv-loop μ-loop
-serve-requires c κs = tt
+serve-requires c κs = omega arith
 
 sub-print : tie.Need-sub-print Inv-loop μ-loop
 sub-print c = omega arith
@@ -114,15 +103,7 @@ loop-less : tie.Need-loop-less Inv-loop μ-loop
 loop-less c = omega arith
 
 loop-again : tie.Need-loop-again Inv-loop μ-loop
-loop-again c =
-    let b = c .before .before .before .before .before .before .before .before in
-    let s = b .before .before .before in
-    let r = s .before .before .before .before .before .before .before .before in
-    let l = r .before .before .before .before .before .loop in
-    let end = l .kept + r .before .read .result .count in
-    let read = same-len-mid (l .kept) (16384 - l .kept) (l .input) (r .before .read .last .0) (r .input2 .given) in
-    let served = same-len-mid 0 (end - 0) _ (s .serve .last .1 .1 .0) (b .input4 .given) in
-    omega (arith, read, served, s)
+loop-again c = omega arith
 
 returns-4 : tie.Need-returns-4 Inv-loop μ-loop
 returns-4 c = inl refl
@@ -137,20 +118,15 @@ serve-input-spec =
     slice-aggregate-open-2
     open-requires
     large-buffer-requires
+    start-requires
     loop-holds
-    sub-read
-    part-input-start
-    part-input-end
-    slice-aggregate-read
-    read-requires
+    slice-aggregate-read-behind
+    read-behind-requires
     returns
-    add-end
     slice-aggregate-serve
     slice-aggregate-serve-2
-    sub-serve
-    part-input-start-2
-    part-input-end-2
     slice-aggregate-serve-3
+    slice-aggregate-serve-4
     serve-requires
     sub-print
     part-print-start

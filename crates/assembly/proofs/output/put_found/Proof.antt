@@ -1,7 +1,8 @@
--- `put_found` writes that the line has ended, a word between quotes, or its start and dots after them.
+-- `put_found` writes that the line has ended, or a word as it is shown.
+use native.Mathlib.Nat.{sub-zero}
 use native.Mathlib.Omega.{arith}
 use Rattle.line.specs.Text.{bytes}
-use Rattle.assembly.proofs.Putting.{three-put, found-none, found-whole, found-start}
+use Rattle.assembly.proofs.Putting.{two-put, found-none, found-some}
 use borrow.Author.Needs.{needs}
 use Rattle.assembly.proofs.output.put_found.Statement.{statement}
 use Rattle.assembly.proofs.output.put_found.Tie as tie
@@ -23,17 +24,23 @@ returns c =
     let end = p .place in
     rw (found-none (b .before .before .before .args .word .now) (b .if1 .taken)) (omega arith, p)
 
-slice-aggregate-put-2 : tie.Need-slice-aggregate-put-2
-slice-aggregate-put-2 c = search needs
+quoted-requires : tie.Need-quoted-requires
+quoted-requires c κs = search needs
+
+sub-put : tie.Need-sub-put
+sub-put c = search needs
+
+part-put-start : tie.Need-part-put-start
+part-put-start c = search needs
+
+part-put-end : tie.Need-part-put-end
+part-put-end c = search needs
 
 put-requires-2 : tie.Need-put-requires-2
 put-requires-2 c κs = search needs
 
-put-shown-requires : tie.Need-put-shown-requires
-put-shown-requires c κs = search needs
-
-slice-aggregate-put-3 : tie.Need-slice-aggregate-put-3
-slice-aggregate-put-3 c = search needs
+slice-aggregate-put-2 : tie.Need-slice-aggregate-put-2
+slice-aggregate-put-2 c = search needs
 
 put-requires-3 : tie.Need-put-requires-3
 put-requires-3 c κs = search needs
@@ -44,31 +51,13 @@ same-length-2 c = search needs
 returns-2 : tie.Need-returns-2
 unfolding bytes
 returns-2 c =
-    let b = c .before .before .before .before .before in
-    let g = b .before .before .before in
-    let f = g .before .before .before .before in
-    let w = f .before .before .before in
-    let p = three-put (f .put2 .ensures) (g .put-shown .ensures .1) (c .before .before .put3 .ensures) (omega arith) in
-    rw (found-whole (w .before .before .before .args .word .now) (w .if1 .left) (b .if2 .taken)) (omega arith, p)
-
-slice-aggregate-put-4 : tie.Need-slice-aggregate-put-4
-slice-aggregate-put-4 c = search needs
-
-put-requires-4 : tie.Need-put-requires-4
-put-requires-4 c κs = search needs
-
-same-length-3 : tie.Need-same-length-3
-same-length-3 c = search needs
-
-returns-3 : tie.Need-returns-3
-unfolding bytes
-returns-3 c =
-    let b = c .before .before .before .before .before in
-    let g = b .before .before .before in
-    let f = g .before .before .before .before in
-    let w = f .before .before .before in
-    let p = three-put (f .put2 .ensures) (g .put-shown .ensures .1) (c .before .before .put4 .ensures) (omega arith) in
-    rw (found-start (w .before .before .before .args .word .now) (w .if1 .left) (omega arith)) (omega arith, p)
+    let first = c .before .before .before .before .before .before .before in
+    let q = first .before .before .before .before .before in
+    let tested = q .before in
+    let start = tested .before .before .before in
+    let word = rw (sub-zero, q .quoted .ensures .1 .0) at (first .put2 .ensures) in
+    let p = two-put word (c .before .before .put3 .ensures) (omega arith) in
+    rw (found-some (start .args .word .now) (tested .if1 .left)) (omega arith, p)
 
 pub put-found-spec : {M : Type 1} → statement M
 put-found-spec =
@@ -78,14 +67,12 @@ put-found-spec =
     put-requires
     same-length
     returns
-    slice-aggregate-put-2
+    quoted-requires
+    sub-put
+    part-put-start
+    part-put-end
     put-requires-2
-    put-shown-requires
-    slice-aggregate-put-3
+    slice-aggregate-put-2
     put-requires-3
     same-length-2
-    returns-2
-    slice-aggregate-put-4
-    put-requires-4
-    same-length-3
-    returns-3)
+    returns-2)

@@ -1,19 +1,13 @@
--- `chosen` answers what the arguments ask for.
-use borrow.Author.Needs.{needs}
+-- `chosen` answers what the arguments ask for, or which is unknown.
 use native.Mathlib.Omega.{arith}
 use Rattle.alike.specs.Text.{bytes}
-use Rattle.program.proofs.Choosing.{none-given, too-many, help-asked, another-asked}
+use Rattle.program.proofs.Choosing.{none-given, help-asked, version-asked, another-asked}
+use borrow.Author.Needs.{needs}
 use Rattle.program.proofs.arguments.chosen.Statement.{statement}
 use Rattle.program.proofs.arguments.chosen.Tie as tie
 
 returns : tie.Need-returns
-returns c = none-given _ _ (omega arith)
-
-sub-if2 : tie.Need-sub-if2
-sub-if2 c = search needs
-
-returns-2 : tie.Need-returns-2
-returns-2 c = too-many _ _ (λ e. omega arith) (λ e. omega arith)
+returns c = none-given _ _ _ (omega arith)
 
 slice-aggregate-same : tie.Need-slice-aggregate-same
 slice-aggregate-same c = search needs
@@ -21,15 +15,46 @@ slice-aggregate-same c = search needs
 same-requires : tie.Need-same-requires
 same-requires c κs = search needs
 
+alone-requires : tie.Need-alone-requires
+alone-requires c κs = search needs
+
+returns-2 : tie.Need-returns-2
+unfolding bytes
+returns-2 c = help-asked _ _ _ (omega arith) (c .before .before .same .ensures) (c .before .if2 .taken) (c .alone .ensures)
+
+slice-aggregate-same-2 : tie.Need-slice-aggregate-same-2
+slice-aggregate-same-2 c = search needs
+
+same-requires-2 : tie.Need-same-requires-2
+same-requires-2 c κs = search needs
+
+alone-requires-2 : tie.Need-alone-requires-2
+alone-requires-2 c κs = search needs
+
 returns-3 : tie.Need-returns-3
 unfolding bytes
-returns-3 c = help-asked _ _ (omega arith) (c .before .same .ensures) (c .if3 .taken)
+returns-3 c =
+    let first = c .before .before .before .before in
+    version-asked _ _ _ (omega arith) (first .before .same .ensures) (first .if2 .left) (c .before .before .same2 .ensures) (c .before .if3 .taken)
+    (c .alone2 .ensures)
 
 returns-4 : tie.Need-returns-4
 unfolding bytes
-returns-4 c = another-asked _ _ (omega arith) (c .before .same .ensures) (c .if3 .left)
+returns-4 c =
+    let first = c .before .before .before in
+    another-asked _ _ _ (omega arith) (first .before .same .ensures) (first .if2 .left) (c .before .same2 .ensures) (c .if3 .left)
 
 pub chosen-spec : {M : Type 1} → statement M
 chosen-spec =
     tie.close
-    (tie.spec returns sub-if2 returns-2 slice-aggregate-same same-requires returns-3 returns-4)
+    (tie.spec
+    returns
+    slice-aggregate-same
+    same-requires
+    alone-requires
+    returns-2
+    slice-aggregate-same-2
+    same-requires-2
+    alone-requires-2
+    returns-3
+    returns-4)

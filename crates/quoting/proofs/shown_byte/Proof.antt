@@ -1,9 +1,9 @@
 -- `shown_byte` keeps the bytes between two others.
 use native.Mathlib.Omega.{arith}
 use borrow.Author.Tests.{le-leb, lt-leb}
-use Rattle.assembly.specs.Message.{shownByte}
-use Rattle.assembly.proofs.output.shown_byte.Statement.{statement}
-use Rattle.assembly.proofs.output.shown_byte.Tie as tie
+use Rattle.quoting.specs.Quoted.{shownByte}
+use Rattle.quoting.proofs.shown_byte.Statement.{statement}
+use Rattle.quoting.proofs.shown_byte.Tie as tie
 
 returns : tie.Need-returns
 unfolding shownByte

@@ -1,0 +1,2 @@
+pub mod Serving
+pub mod Opening
