@@ -29,8 +29,8 @@ fn slot_start(layout: Layout, class: usize, slot: usize) -> u32
     (class * wide(layout.region) + slot * layout.slot_size(class)) as u32
 }
 
-// Takes a slot of a class that counts so many: draws it, sets its bit, counts it and stores the generator. Metadata that
-// count fewer than are set may have none clear.
+// Takes a slot of a class that counts so many: draws it, sets its bit, counts it and stores the generator. Metadata
+// that count fewer than are set may have none clear.
 fn take(metadata: &mut [u8], layout: Layout, class: usize, part: Part, count: u32) -> Answer
     requires { let m = now metadata in
         ⌜ Fits layout (heapLength layout) (length m) × Roomy layout m class part count ⌝ }

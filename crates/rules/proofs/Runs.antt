@@ -105,7 +105,8 @@ pub indistinguishable : (heapBytes : ℕ) (s : Setup) (m m′ : List ℕ)
 indistinguishable heapBytes s m m′ e e′ es fs l h k =
     let region = has-layout heapBytes m s e in
     let valid = fresh-valid (layoutOf heapBytes) s (laid heapBytes .small) in
-    let sound : (es : List Entry) → HeapsOfLength heapBytes es → (j : ℕ) → Sound (layoutOf heapBytes) (live (layoutOf heapBytes) [] (history (fresh (layoutOf heapBytes) s) (take j es))) =
+    let sound : (es : List Entry) → HeapsOfLength heapBytes es → (j : ℕ)
+    → Sound (layoutOf heapBytes) (live (layoutOf heapBytes) [] (history (fresh (layoutOf heapBytes) s) (take j es))) =
     λ es h j. tracks-sound (layoutOf heapBytes) _ _ (runs-track heapBytes region j es h _ valid [] (fresh-tracks (layoutOf heapBytes) s)) in
     rw (opened-fresh heapBytes m s e, opened-fresh heapBytes m′ s e′) (
       traces-pair heapBytes region es fs l h k _ _ valid refl,

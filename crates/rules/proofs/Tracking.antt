@@ -23,7 +23,8 @@ use Rattle.rules.specs.Live.{Object, without, servedAfter, objectsAfter,
 use Rattle.answer.proofs.Numbers.{refusal-number}
 use Rattle.rules.proofs.Effects.{liveBit, Takes, fresh-none, fresh-clear}
 use Rattle.rules.proofs.Results.{Change, turn, Made, Result, refusal, allocation, freeing, measuring, eventBy}
-use Rattle.rules.proofs.Objects.{IsSlot, Slots, starting, without-slots, class-parts, starting-gone, starting-kept, same-start, starting-other, starting-self, holding-one}
+use Rattle.rules.proofs.Objects.{IsSlot, Slots, starting, without-slots, class-parts, same-start, holding-one}
+use Rattle.rules.proofs.Objects.{starting-gone, starting-kept, starting-other, starting-self}
 
 -- ---- counts of a bitmap
 

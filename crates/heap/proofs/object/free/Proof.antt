@@ -120,7 +120,8 @@ store-count-requires : tie.Need-store-count-requires
 store-count-requires c κs =
     let counting = c .before .before .before .before .before .before .before in
     let part = counting .before .before .before .before .before .before in
-    (classed part (counting .before .before .before .before .if3 .left), omega (arith, has-fields _ (part .before .before .before .before .before .before .before .before .pre)))
+    let start = part .before .before .before .before .before .before .before .before in
+    (classed part (counting .before .before .before .before .if3 .left), omega (arith, has-fields _ (start .pre)))
 
 slot-size-requires : tie.Need-slot-size-requires
 slot-size-requires c κs = search needs

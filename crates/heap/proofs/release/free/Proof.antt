@@ -41,7 +41,8 @@ part-fill-end c =
     let start = done .before .before .before .before .before .before in
     let a = start .args in
     let told = ap replyOf (sym (c .before .before .before .size .given .1)) ∙ done .free .ensures .0 in
-    omega (arith, slot-inside (a .layout) (a .metadata .now) (a .heap .now) (a .offset) told (start .pre .heap), c .before .wide .ensures .0, c .wide2 .ensures .0)
+    let inside = slot-inside (a .layout) (a .metadata .now) (a .heap .now) (a .offset) told (start .pre .heap) in
+    omega (arith, inside, c .before .wide .ensures .0, c .wide2 .ensures .0)
 
 fill-requires : tie.Need-fill-requires
 fill-requires c κs = search needs
