@@ -9,6 +9,7 @@ use lib.ListN.{length, take, drop, length-take, length-drop}
 use Rattle.writing.specs.Overwrite.{overwrite}
 use Rattle.writing.proofs.Parts.{front-written}
 use Rattle.request.specs.Parse.{requestSize}
+use Rattle.rules.specs.Serve.{lent}
 use Rattle.rules.specs.Call.{State, stateAfter}
 use Rattle.replay.specs.Line.{lineRoom}
 use Rattle.replay.specs.Batch.{replay, requests, batchOf}
@@ -22,7 +23,7 @@ unfolding replay
 replay-next zero s number input = omega arith
 replay-next (suc k) s number input =
     let request : List ℕ = take requestSize input in
-    replay-next k (stateAfter s request []) (number + 1) (drop requestSize input) ∙ omega arith
+    replay-next k (stateAfter s request (lent [])) (number + 1) (drop requestSize input) ∙ omega arith
 
 module _ {input out : List ℕ} {end number : ℕ} (room : Room input out end number) (ended : Bool) where
   few-ready : requests (ready ended (take end input)) ≤ requestsRoom
