@@ -19,7 +19,7 @@ ghost use mathlib.Core.Path.{_≡_};
 ghost use lib.ListN.{length};
 ghost use Rattle.answer.specs.Reply.{replyOf};
 ghost use Rattle.request.specs.Parse.{parse};
-ghost use Rattle.rules.specs.View.{viewBytes};
+ghost use Rattle.rules.specs.View.{viewBytes, addressOf};
 ghost use Rattle.rules.specs.Judge.{Fits};
 ghost use Rattle.rules.specs.Open.{setup};
 ghost use Rattle.rules.specs.Serve.{lentWith, perform, act};
@@ -130,7 +130,7 @@ pub fn look(heap: &[u8], metadata: &[u8], offset: u32, count: u32, page: &[u8]) 
     }
 }
 
-// The bytes that a read shows: a part of the heap, or of the page, whose empty part stands for a refusal.
+// What a read shows: a part of the heap, or of the page, whose empty part stands for a refusal.
 pub fn read<'a>(
     heap: &'a [u8],
     metadata: &[u8],
@@ -140,8 +140,12 @@ pub fn read<'a>(
 ) -> &'a [u8]
     ensures { λ r.
         let called = reading (length (now (heap .entry))) (now (metadata .entry)) offset count (now (page .entry)) in
-        ⌜ (now r ≡ viewBytes (called .view) (now (heap .entry)) (now (page .entry)))
+        ⌜ (r .ptr ≡ addressOf (called .view .place) (heap .entry .ptr) (page .entry .ptr))
+        × (now r ≡ viewBytes (called .view) (now (heap .entry)) (now (page .entry)))
         × (length (now r) ≡ called .answer .value) ⌝ }
 {
-    view::bytes(look(heap, metadata, offset, count, page).view(), heap, page)
+    match look(heap, metadata, offset, count, page) {
+        Looked::Refused(_) => &page[0..0],
+        Looked::Shown(view) => view::bytes(view, heap, page),
+    }
 }

@@ -4,6 +4,7 @@ use slices::between;
 ghost use mathlib.Core.Path.{_≡_};
 ghost use Prim.Native.Nat.{_≤_};
 ghost use lib.ListN.{length};
+ghost use Rattle.slices.specs.Part.{partAddress};
 ghost use Rattle.line.specs.Text.{isBlank, seek, nextWord, wordAt};
 
 fn is_blank(byte: u8) -> bool
@@ -44,7 +45,9 @@ pub fn next(text: &[u8], from: usize) -> Word
 
 // The bytes of a word, as far as they lie in the text.
 pub fn word_bytes(text: &[u8], word: Word) -> &[u8]
-    ensures { λ r. ⌜ now r ≡ wordAt (now (text .entry)) word ⌝ }
+    ensures { λ r.
+        ⌜ (r .ptr ≡ partAddress (text .entry .ptr) (length (now (text .entry))) (word .start) (word .end))
+        × (now r ≡ wordAt (now (text .entry)) word) ⌝ }
 {
     between(text, word.start, word.end)
 }

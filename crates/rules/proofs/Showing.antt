@@ -1,7 +1,7 @@
 -- What a read shows lies in the heap or in the page, and its value is how many bytes that is; with plain arguments it is what the request of
 -- its bytes comes to.
-use Prim.Native.Nat.{ℕ, _+_, _^_, _<_, _≤_, zero-le}
-use mathlib.Core.Path.{_≡_, refl}
+use Prim.Native.Nat.{ℕ, _+_, _^_, _<_, _≤_, min, zero-le}
+use mathlib.Core.Path.{_≡_, refl, ap}
 use mathlib.Core.Bool.{Bool, true, false, or-true}
 use mathlib.Core.List.{List, []}
 use native.Mathlib.Omega.{arith}
@@ -20,7 +20,7 @@ use Rattle.rules.specs.declared.Place.the-variants.{Heap, Page}
 use Rattle.rules.specs.declared.View.{View}
 use Rattle.rules.specs.declared.Judged.{Judged}
 use Rattle.rules.specs.declared.Judged.the-variants.{Laid, Unfit}
-use Rattle.rules.specs.View.{bytesFrom, viewBytes, EndsWithin, Lies}
+use Rattle.rules.specs.View.{bytesFrom, viewBytes, placeWithin, EndsWithin, Lies}
 use Rattle.rules.specs.Judge.{admit}
 use Rattle.rules.specs.Outcome.{Outcome, shown, reply, viewOf}
 use Rattle.rules.specs.Object.{space}
@@ -39,6 +39,16 @@ from-length heap page n Page h = simp length-take (omega arith)
 
 pub view-length : (heap page : List ℕ) (v : View) → Lies (length heap) (length page) v → length (viewBytes v heap page) ≡ v .len
 view-length heap page v h = from-length heap page (v .len) (v .place) h
+
+-- and it starts where its place says, not at the heap's end
+from-within : (heapBytes pageBytes n : ℕ) (p : Place) → EndsWithin heapBytes pageBytes n p → placeWithin heapBytes p ≡ p
+from-within heapBytes pageBytes n (Heap offset) h =
+    let start : min offset heapBytes ≡ offset = omega arith in
+    ap Heap start
+from-within heapBytes pageBytes n Page h = refl
+
+pub view-within : (heapBytes pageBytes : ℕ) (v : View) → Lies heapBytes pageBytes v → placeWithin heapBytes (v .place) ≡ v .place
+view-within heapBytes pageBytes v h = from-within heapBytes pageBytes (v .len) (v .place) h
 
 -- those in a room that ends within the heap
 room-lies : (n offset room count pageBytes : ℕ) → offset + room ≤ n → Lies n pageBytes (viewIn offset room count pageBytes)

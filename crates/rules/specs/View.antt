@@ -1,5 +1,5 @@
 -- Bytes that are shown without a copy: a part of the heap, or of the page that is lent beside it.
-use Prim.Native.Nat.{ℕ, _+_, _≤_}
+use Prim.Native.Nat.{ℕ, _+_, _≤_, min}
 use mathlib.Core.List.{List}
 use lib.ListN.{take, drop}
 use Rattle.rules.specs.declared.Place.{Place}
@@ -16,6 +16,16 @@ bytesFrom Page heap page = page
 
 abbrev pub viewBytes : View → List ℕ → List ℕ → List ℕ
 viewBytes v heap page = take (v .len) (bytesFrom (v .place) heap page)
+
+-- where a place lies in memory, given a heap and a page that lie there: in which block, and how far into it
+abbrev pub addressOf : Place → ℕ × ℕ → ℕ × ℕ → ℕ × ℕ
+addressOf (Heap offset) heap page = (heap .0, heap .1 + offset)
+addressOf Page heap page = page
+
+-- a place cut to a heap of this length: what lies past its end is at its end
+abbrev pub placeWithin : ℕ → Place → Place
+placeWithin heapBytes (Heap offset) = Heap (min offset heapBytes)
+placeWithin heapBytes Page = Page
 
 -- the empty part of the page
 abbrev pub noView : View

@@ -1,11 +1,12 @@
--- A part is cut where the list ends.
-use Prim.Native.Nat.{ℕ, _-_, _<_, min}
-use mathlib.Core.Path.{_≡_, _∙_}
+-- A part is cut where the list ends; where it begins in memory.
+use Prim.Native.Nat.{ℕ, _+_, _-_, _<_, min}
+use mathlib.Core.Path.{_≡_, ap, _∙_}
 use mathlib.Core.List.{List}
 use native.Mathlib.Decide.{decLt}
 use native.Mathlib.Omega.{arith}
 use lib.ListN.{length, take, drop, length-drop}
 use lib.Seq.{take-length}
+use Rattle.slices.specs.Part.{partAddress}
 use Rattle.numbers.proofs.Cut.{take-min}
 
 pub part-within : (xs : List ℕ) (start end : ℕ) {from to : ℕ} → to ≡ min end (length xs) → from ≡ min start to
@@ -23,3 +24,9 @@ part-within xs start end {from} {to} e f =
     go (no h) =
         let s : to - from ≡ 0 = omega arith in
         rw s
+
+pub part-place : (slice : ℕ × ℕ) (len start end : ℕ) {from to : ℕ} → to ≡ min end len → from ≡ min start to
+    → _≡_ {A = ℕ × ℕ} (slice .0, from + slice .1) (partAddress slice len start end)
+part-place slice len start end {from} {to} e f =
+    let place : from + slice .1 ≡ slice .1 + min start (min end len) = omega arith in
+    ap (λ (at : ℕ). (slice .0, at)) place

@@ -1,2 +1,3 @@
 -- Laws of what a read shows.
 pub mod Room
+pub mod Start

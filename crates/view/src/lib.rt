@@ -5,7 +5,8 @@ use rules::Place;
 use rules::View;
 use slices::between;
 ghost use mathlib.Core.Path.{_≡_};
-ghost use Rattle.rules.specs.View.{viewBytes};
+ghost use lib.ListN.{length};
+ghost use Rattle.rules.specs.View.{viewBytes, addressOf, placeWithin};
 ghost use Rattle.rules.specs.Read.{viewIn};
 
 // At an offset with so much room to the end of its live object, and with a page of this length.
@@ -24,9 +25,12 @@ pub fn within(offset: u32, room: usize, count: u32, page_len: usize) -> View
     }
 }
 
-// A part of the heap or of the page.
+// A part of the heap or of the page: where it starts, and its bytes.
 pub fn bytes<'a>(view: View, heap: &'a [u8], page: &'a [u8]) -> &'a [u8]
-    ensures { λ r. ⌜ now r ≡ viewBytes view (now (heap .entry)) (now (page .entry)) ⌝ }
+    ensures { λ r.
+        let place = placeWithin (length (now (heap .entry))) (view .place) in
+        ⌜ (r .ptr ≡ addressOf place (heap .entry .ptr) (page .entry .ptr))
+        × (now r ≡ viewBytes view (now (heap .entry)) (now (page .entry))) ⌝ }
 {
     let place = view.place;
     let len = wide(view.len);

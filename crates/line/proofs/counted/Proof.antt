@@ -20,7 +20,7 @@ unfolding counted
 returns c =
     let b = c .before .before in
     let read = c .before .of .ensures in
-    rw (← b .before .next .ensures .0, ← b .word-bytes .ensures, ← read, le-ltb _ _ (c .if1 .taken))
+    rw (← b .before .next .ensures .0, ← b .word-bytes .ensures .1, ← read, le-ltb _ _ (c .if1 .taken))
 
 request-requires : tie.Need-request-requires
 request-requires c κs = search needs
@@ -31,7 +31,7 @@ returns-2 c =
     let b = c .before .before in
     let f = b .before in
     c .request .ensures
-    ∙ rw (← f .before .next .ensures .0, ← f .word-bytes .ensures, ← b .of .ensures, lt-ltb _ _ (c .before .if1 .left))
+    ∙ rw (← f .before .next .ensures .0, ← f .word-bytes .ensures .1, ← b .of .ensures, lt-ltb _ _ (c .before .if1 .left))
 
 pub counted-spec : {M : Type 1} → statement M
 counted-spec =

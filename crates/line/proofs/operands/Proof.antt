@@ -20,7 +20,7 @@ unfolding operands
 returns c =
     let b = c .before .before in
     let read = c .before .of .ensures in
-    rw (← b .before .next .ensures .0, ← b .word-bytes .ensures, ← read, le-ltb _ _ (c .if1 .taken))
+    rw (← b .before .next .ensures .0, ← b .word-bytes .ensures .1, ← read, le-ltb _ _ (c .if1 .taken))
 
 has-count-requires : tie.Need-has-count-requires
 has-count-requires c κs = search needs
@@ -38,7 +38,7 @@ returns-2 c =
     let fits = lt-ltb _ _ (l .if1 .left) in
     let two = sym (t .before .has-count .ensures) ∙ t .if2 .taken in
     c .counted .ensures
-    ∙ rw (← f .before .next .ensures .0, ← f .word-bytes .ensures, ← b .of .ensures, fits, two)
+    ∙ rw (← f .before .next .ensures .0, ← f .word-bytes .ensures .1, ← b .of .ensures, fits, two)
 
 request-requires : tie.Need-request-requires
 request-requires c κs = search needs
@@ -53,7 +53,7 @@ returns-3 c =
     let fits = lt-ltb _ _ (l .if1 .left) in
     let one = sym (t .before .has-count .ensures) ∙ t .if2 .left in
     c .request .ensures
-    ∙ rw (← f .before .next .ensures .0, ← f .word-bytes .ensures, ← b .of .ensures, fits, one)
+    ∙ rw (← f .before .next .ensures .0, ← f .word-bytes .ensures .1, ← b .of .ensures, fits, one)
 
 pub operands-spec : {M : Type 1} → statement M
 operands-spec =

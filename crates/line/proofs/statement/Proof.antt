@@ -26,7 +26,7 @@ returns-2 c =
     let b = w .before in
     let some = ne-eqb _ _ (b .if1 .left) in
     let named = c .before .operation-of .ensures in
-    rw (← b .before .before .next .ensures .0, some, ← w .word-bytes .ensures, ← named, eq-eqb _ _ (c .if2 .taken))
+    rw (← b .before .before .next .ensures .0, some, ← w .word-bytes .ensures .1, ← named, eq-eqb _ _ (c .if2 .taken))
 
 operands-requires : tie.Need-operands-requires
 operands-requires c κs = search needs
@@ -40,7 +40,7 @@ returns-3 c =
     let some = ne-eqb _ _ (b .if1 .left) in
     let named = t .before .operation-of .ensures in
     c .operands .ensures
-    ∙ rw (← b .before .before .next .ensures .0, some, ← w .word-bytes .ensures, ← named, ne-eqb _ _ (t .if2 .left))
+    ∙ rw (← b .before .before .next .ensures .0, some, ← w .word-bytes .ensures .1, ← named, ne-eqb _ _ (t .if2 .left))
 
 pub statement-spec : {M : Type 1} → statement M
 statement-spec =

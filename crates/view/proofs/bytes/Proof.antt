@@ -2,6 +2,7 @@
 use borrow.Author.Needs.{needs}
 use mathlib.Core.Path.{_∙_}
 use native.Mathlib.Nat.{sub-zero, add-sub-cancel-left}
+use Rattle.view.proofs.Start.{heap-start, page-start}
 use Rattle.view.proofs.bytes.Statement.{statement}
 use Rattle.view.proofs.bytes.Tie as tie
 
@@ -24,8 +25,10 @@ returns : tie.Need-returns
 returns c =
     let start = c .before .wide2 in
     let len = c .before .before .before .before .before .wide in
-    rw (c .before .before .before .place .given .1)
-    (c .between .ensures ∙ rw (add-sub-cancel-left (start .result) (len .result), start .ensures .0, len .ensures .0))
+    rw (c .before .before .before .place .given .1) (
+      heap-start _ _ _ _ (c .between .ensures .0) (start .ensures .0),
+      c .between .ensures .1 ∙ rw (add-sub-cancel-left (start .result) (len .result), start .ensures .0, len .ensures .0),
+    )
 
 enum-told : tie.Need-enum-told
 enum-told c = search needs
@@ -36,7 +39,10 @@ between-requires-2 c κs = search needs
 returns-2 : tie.Need-returns-2
 returns-2 c =
     let len = c .before .before .before .wide in
-    rw (c .before .enum-told .given .1) (c .between2 .ensures ∙ rw (sub-zero (len .result), len .ensures .0))
+    rw (c .before .enum-told .given .1) (
+      page-start _ _ _ (c .between2 .ensures .0),
+      c .between2 .ensures .1 ∙ rw (sub-zero (len .result), len .ensures .0),
+    )
 
 pub bytes-spec : {M : Type 1} → statement M
 bytes-spec =

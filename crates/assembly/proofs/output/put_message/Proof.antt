@@ -47,7 +47,7 @@ returns-2 c =
     let b = c .before .before .before .before .before in
     let a = b .before .before .before .before .before .before .before .args in
     let e = b .before .before .before .say-expected .ensures in
-    let f = rw (c .before .before .before .before .word-bytes .ensures) at (c .before .before .put-found .ensures) in
+    let f = rw (c .before .before .before .before .word-bytes .ensures .1) at (c .before .before .put-found .ensures) in
     let w : foundIn (a .line .now) (a .read) ≡ found (wordAt (a .line .now) (b .match .word)) =
     ⊎-elim (λ m. rw (m .1 .given .1, m .3))
     (⊎-elim (λ m. rw (m .1 .given .1, m .3)) (λ m. rw (m .1 .given .1, m .3))) (b .match .came) in
