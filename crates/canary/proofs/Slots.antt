@@ -1,5 +1,5 @@
 -- All slots of a heap filled, class by class.
-use Prim.Native.Nat.{ℕ, suc, min, _+_, _-_, _*_, _%_, _<_, _≤_}
+use Prim.Native.Nat.{ℕ, min, _+_, _-_, _*_, _%_, _<_, _≤_}
 use mathlib.Core.Path.{_≡_, sym, ap, _∙_}
 use mathlib.Core.Bool.{cond}
 use mathlib.Core.List.{List, _++_}
@@ -20,8 +20,7 @@ use Rattle.geometry.specs.declared.Layout.{Layout}
 use Rattle.geometry.specs.Layout.{classes, slotSize, slots, locate}
 use Rattle.geometry.proofs.Geometry.{slot-size-whole}
 use Rattle.geometry.proofs.Slots.{slots-class, slots-hold, slots-held}
-use Rattle.rules.specs.Canary.{cycled, canaryByte, filled, filledByte, filledHeap}
-use Rattle.canary.proofs.Filling.{filled-spread}
+use Rattle.rules.specs.Canary.{canaryByte, filled, filledByte, filledHeap}
 
 module _ (G : Layout) (canary : ℕ) (h : List ℕ) where
   -- the slots of the classes before c are filled
@@ -121,15 +120,14 @@ module _ (G : Layout) (canary : ℕ) (h : List ℕ) where
           ]
         ]
 
--- by a filled block over and over, between the places that were computed
-pub class-filled : (G : Layout) (canary : ℕ) (h : List ℕ) (c : ℕ) {now block w : List ℕ} {start end region n size : ℕ} (k : ℕ) → Partly G canary h c now
+-- between the places that were computed
+pub class-filled : (G : Layout) (canary : ℕ) (h : List ℕ) (c : ℕ) {now w : List ℕ} {start end region n size : ℕ} → Partly G canary h c now
     → region ≡ G .region → n ≡ slots G c → size ≡ slotSize G c
     → start ≡ min (c * region) (length now) → end ≡ min (start + n * size) (length now)
-    → block ≡ filled canary (suc k) → suc k % 4 ≡ 0
-    → w ≡ tabulate (cycled block) 0 (length (take (end - start) (drop start now)))
+    → w ≡ filled canary (length (take (end - start) (drop start now)))
     → Partly G canary h (c + 1) (take start now ++ (w ++ drop (end - start) (drop start now)))
-class-filled G canary h c {now} {block} {w} {start} {end} k so r n s from to of whole wrote =
+class-filled G canary h c {now} {w} {start} {end} so r n s from to wrote =
     let lent : length (take (end - start) (drop start now)) ≡ end - start = length-take-le (end - start) (drop start now) (rw length-drop (omega arith)) in
-    let same : w ≡ filled canary (end - start) = rw (of, lent) at wrote ∙ filled-spread canary (suc k) (end - start) (omega arith) whole in
+    let same : w ≡ filled canary (end - start) = rw lent at wrote in
     let size : length (filled canary (end - start)) ≡ end - start = tabulate-length (canaryByte canary) 0 (end - start) in
     rw same (rw size at (partly-more G canary h c so (rw r at from) (rw (n, s) at to)))

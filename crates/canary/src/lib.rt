@@ -4,17 +4,20 @@ use geometry::Layout;
 use numbers::least;
 use numbers::wide;
 ghost use mathlib.Core.Path.{_≡_};
-ghost use Prim.Native.Nat.{_-_, _%_, _<_, _≤_};
-ghost use lib.ListN.{length};
+ghost use Prim.Native.Nat.{_+_, _-_, _%_, _<_, _≤_};
+ghost use lib.ListN.{length, take};
 ghost use Rattle.words.specs.Word.{bytesOf};
-ghost use Rattle.search.specs.Tabulate.{tabulate};
-ghost use Rattle.rules.specs.Canary.{cycled, filled, damage, hasDamage, filledHeap};
+ghost use Rattle.writing.specs.Overwrite.{overwrite};
+ghost use Rattle.rules.specs.Canary.{filled, damage, hasDamage, filledHeap};
 
 // The bytes of a canary.
 const SIZE: usize = 4;
 
-// Slots are filled with copies of this many bytes: longer ones the C library copies more slowly.
-const COPY: usize = 2048;
+// The first bytes are filled by words, and the rest by copies of what is written, at most so many at once: a page, since
+// the processor takes a load for a store that lies at the same place of another page and waits for it.
+const FRONT: usize = 1024;
+
+const COPY: usize = 4096;
 
 // A search goes by blocks of this length, then by single canaries, and then by bytes.
 const BLOCK: usize = 64;
@@ -28,8 +31,8 @@ fn bytes_of(canary: u32) -> [u8; SIZE]
     four
 }
 
-// Fills bytes, from the first on.
-pub fn fill(bytes: &mut [u8], canary: u32)
+// Fills bytes by words.
+fn fill_words(bytes: &mut [u8], canary: u32)
     ensures { λ _. ⌜ now (bytes .exit) ≡ filled canary (length (now (bytes .entry))) ⌝ }
 {
     let mut at: usize = 0;
@@ -40,14 +43,30 @@ pub fn fill(bytes: &mut [u8], canary: u32)
     writing::write(&mut bytes[at..], &bytes_of(canary));
 }
 
-// Writes a block over and over.
-fn spread(bytes: &mut [u8], block: &[u8])
-    requires { ⌜ 0 < length (now block) ⌝ }
-    ensures { λ _. ⌜ now (bytes .exit) ≡ tabulate (cycled (now (block .entry))) 0 (length (now (bytes .entry))) ⌝ }
+// Writes the first bytes again, from a place on: by way of an array of its own, which the compiler makes one move.
+fn repeat(bytes: &mut [u8], at: usize, len: usize)
+    requires { ⌜ (at + len ≤ length (now bytes)) × (len ≤ 4096) ⌝ }
+    ensures { λ _. ⌜ now (bytes .exit) ≡ overwrite (now (bytes .entry)) at (take len (now (bytes .entry))) ⌝ }
 {
-    let mut at: usize = 0;
+    let mut block = [0u8; COPY];
+    bytes::copy(&bytes[0..len], &mut block);
+    bytes::copy(&block[0..len], &mut bytes[at..at + len]);
+}
+
+// Fills bytes, from the first on.
+pub fn fill(bytes: &mut [u8], canary: u32)
+    ensures { λ _. ⌜ now (bytes .exit) ≡ filled canary (length (now (bytes .entry))) ⌝ }
+{
+    if bytes.len() <= FRONT {
+        fill_words(bytes, canary);
+        return;
+    }
+    fill_words(&mut bytes[0..FRONT], canary);
+    let mut at = FRONT;
     while at < bytes.len() {
-        at += writing::write(&mut bytes[at..], block);
+        let len = least(least(COPY, at), bytes.len() - at);
+        repeat(bytes, at, len);
+        at += len;
     }
 }
 
@@ -55,8 +74,6 @@ fn spread(bytes: &mut [u8], block: &[u8])
 pub fn fill_slots(heap: &mut [u8], layout: Layout, canary: u32)
     ensures { λ _. ⌜ now (heap .exit) ≡ filledHeap layout canary (now (heap .entry)) ⌝ }
 {
-    let mut block = [0u8; COPY];
-    fill(&mut block, canary);
     let mut class: usize = 0;
     while class < CLASSES {
         let start = least(class * wide(layout.region), heap.len());
@@ -64,7 +81,7 @@ pub fn fill_slots(heap: &mut [u8], layout: Layout, canary: u32)
             start + layout.slots(class) * layout.slot_size(class),
             heap.len(),
         );
-        spread(&mut heap[start..end], &block);
+        fill(&mut heap[start..end], canary);
         class += 1;
     }
 }

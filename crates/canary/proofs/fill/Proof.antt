@@ -1,85 +1,99 @@
--- `canary::fill` meets its contract. The loop's invariant: whole canaries up to `at`, and then the bytes as they were.
+-- `canary::fill` meets its contract. The loop's invariant: filled up to `at`, whole canaries or all, and then the bytes as they were.
 use borrow.Author.Needs.{needs}
-use Prim.Native.Nat.{_+_, _-_, _%_, _≤_}
+use Prim.Native.Nat.{_-_, _%_, _<_, _≤_}
 use mathlib.Core.Path.{_≡_, refl}
 use native.Mathlib.Omega.{arith}
 use lib.ListN.{length}
 use Rattle.rules.specs.Canary.{canaryByte}
-use Rattle.words.specs.Word.{bytesOf}
-use Rattle.canary.proofs.Filling.{Front, front-none, front-length, front-all, word-more, text-size, text-more}
+use Rattle.canary.proofs.Filling.{Front, front-length, front-all, first-kept, first-front, repeat-more, copy-fits, copy-less, copy-whole}
 use Rattle.canary.proofs.fill.Statement.{statement}
 use Rattle.canary.proofs.fill.Tie as tie
 
 abbrev Inv-loop : tie.InvT-loop
 Inv-loop bytes₀ canary at₀ bytes at =
-    (at ≤ length bytes₀) × (at % 4 ≡ 0) × (length bytes ≡ length bytes₀) × Front (canaryByte canary) bytes₀ bytes at
+    (at ≤ length bytes₀) × (at < length bytes₀ → (at % 4 ≡ 0) × (0 < at)) × (length bytes ≡ length bytes₀)
+    × Front (canaryByte canary) bytes₀ bytes at
 
 abbrev μ-loop : tie.MeasureT-loop
 μ-loop bytes₀ canary at₀ bytes at = length bytes₀ - at
 
-loop-holds : tie.Need-loop-holds Inv-loop μ-loop
-loop-holds c = (omega arith, refl, refl, front-none _ _)
-
-sub-loop : tie.Need-sub-loop Inv-loop μ-loop
-sub-loop c = omega arith
-
-add-put : tie.Need-add-put Inv-loop μ-loop
-add-put c = omega arith
-
-sub-put : tie.Need-sub-put Inv-loop μ-loop
-sub-put c = omega arith
-
-part-put-start : tie.Need-part-put-start Inv-loop μ-loop
-part-put-start c = omega arith
-
-part-put-end : tie.Need-part-put-end Inv-loop μ-loop
-part-put-end c = omega arith
-
-put-requires : tie.Need-put-requires Inv-loop μ-loop
-put-requires c κs = search needs
-
-add-at : tie.Need-add-at Inv-loop μ-loop
-add-at c = omega arith
-
-loop-less : tie.Need-loop-less Inv-loop μ-loop
-loop-less c = omega arith
-
-loop-again : tie.Need-loop-again Inv-loop μ-loop
-loop-again c =
-    let loop = c .before .before .before .before .before .loop in
-    let a = c .before .before .before .before .before .before .before .args in
-    let more = word-more (a .canary) (a .bytes .now) (loop .at) (loop .inv .1) (omega arith) (loop .inv .3) (c .before .before .put .ensures) in
-    (omega arith, omega arith, front-length (canaryByte (a .canary)) (a .bytes .now) (loop .at + 4) (omega arith) more, more)
-
-sub-write : tie.Need-sub-write Inv-loop μ-loop
-sub-write c = omega arith
-
-part-write-start : tie.Need-part-write-start Inv-loop μ-loop
-part-write-start c = omega arith
-
-part-write-end : tie.Need-part-write-end Inv-loop μ-loop
-part-write-end c = omega arith
-
-bytes-of-requires : tie.Need-bytes-of-requires Inv-loop μ-loop
-bytes-of-requires c κs = search needs
-
-slice-aggregate-write : tie.Need-slice-aggregate-write Inv-loop μ-loop
-slice-aggregate-write c = search needs
-
-write-requires : tie.Need-write-requires Inv-loop μ-loop
-write-requires c κs = search needs
+fill-words-requires : tie.Need-fill-words-requires Inv-loop μ-loop
+fill-words-requires c κs = search needs
 
 same-length : tie.Need-same-length Inv-loop μ-loop
 same-length c = search needs
 
 returns : tie.Need-returns Inv-loop μ-loop
-returns c =
+returns c = c .before .before .fill-words .ensures
+
+sub-fill-words : tie.Need-sub-fill-words Inv-loop μ-loop
+sub-fill-words c = omega arith
+
+part-fill-words-start : tie.Need-part-fill-words-start Inv-loop μ-loop
+part-fill-words-start c = omega arith
+
+part-fill-words-end : tie.Need-part-fill-words-end Inv-loop μ-loop
+part-fill-words-end c = omega arith
+
+fill-words-requires-2 : tie.Need-fill-words-requires-2 Inv-loop μ-loop
+fill-words-requires-2 c κs = search needs
+
+loop-holds : tie.Need-loop-holds Inv-loop μ-loop
+loop-holds c =
+    let a = c .before .before .before .before .before .before .args in
+    let words = c .before .before .fill-words2 .ensures in (
+      rw (first-kept (a .canary) (a .bytes .now) 1024 words (omega arith)) (omega arith),
+      λ more. (refl, omega arith),
+      refl,
+      first-front (a .canary) (a .bytes .now) 1024 words (omega arith),
+    )
+
+least-requires : tie.Need-least-requires Inv-loop μ-loop
+least-requires c κs = search needs
+
+sub-least : tie.Need-sub-least Inv-loop μ-loop
+sub-least c = omega arith
+
+least-requires-2 : tie.Need-least-requires-2 Inv-loop μ-loop
+least-requires-2 c κs = search needs
+
+repeat-requires : tie.Need-repeat-requires Inv-loop μ-loop
+repeat-requires c κs = (omega arith, omega arith)
+
+add-at : tie.Need-add-at Inv-loop μ-loop
+add-at c = omega arith
+
+loop-less : tie.Need-loop-less Inv-loop μ-loop
+loop-less c =
     let loop = c .before .before .before .before .before .before .before .loop in
-    let a = c .before .before .before .before .before .before .before .before .before .args in
-    let wrote = rw (c .before .before .before .before .bytes-of .ensures) at (c .before .before .write .ensures) in
-    let size = text-size (bytesOf (a .canary)) (a .bytes .now) (loop .bytes) (loop .at) (loop .inv .2) (omega arith) wrote in
-    let more = text-more (bytesOf (a .canary)) (a .bytes .now) (loop .bytes) (loop .at) (loop .inv .2) (omega arith) wrote (loop .inv .1) (loop .inv .3) in
-    front-all (canaryByte (a .canary)) (a .bytes .now) _ more (omega (arith, size))
+    let lens = c .before .before .before .before in
+    rw (loop .inv .2) at
+    (copy-less _ _ (loop .at) (lens .before .least .ensures) (lens .least2 .ensures) (omega arith) (omega arith) (loop .inv .1 (omega arith) .1))
+
+loop-again : tie.Need-loop-again Inv-loop μ-loop
+loop-again c =
+    let loop = c .before .before .before .before .before .before .before .loop in
+    let lens = c .before .before .before .before in
+    let part = lens .before .least .ensures in
+    let len = lens .least2 .ensures in
+    let (ends, past, short) = copy-fits _ _ (loop .at) part len (omega arith) in
+    let (whole, some) = loop .inv .1 (omega arith) in
+    let more = repeat-more _ _ (loop .at) (lens .least2 .result) whole past (loop .inv .3) (c .before .before .repeat .ensures) in (
+      omega (arith, ends),
+      λ l. (copy-whole _ _ (loop .at) part len (omega arith) refl whole (omega arith), omega arith),
+      front-length _ _ _ (omega (arith, ends)) more,
+      more,
+    )
+
+same-length-2 : tie.Need-same-length-2 Inv-loop μ-loop
+same-length-2 c = omega arith
+
+returns-2 : tie.Need-returns-2 Inv-loop μ-loop
+returns-2 c =
+    let words = c .before .before .before .before in
+    let a = words .before .before .before .before .args in
+    rw (first-kept (a .canary) (a .bytes .now) 1024 (words .fill-words2 .ensures) (omega arith)) at
+    (front-all _ _ _ (c .before .loop .inv .3) (omega arith))
 
 pub fill-spec : {M : Type 1} → statement M
 fill-spec =
@@ -87,21 +101,20 @@ fill-spec =
     (tie.spec
     Inv-loop
     μ-loop
+    fill-words-requires
+    same-length
+    returns
+    sub-fill-words
+    part-fill-words-start
+    part-fill-words-end
+    fill-words-requires-2
     loop-holds
-    sub-loop
-    add-put
-    sub-put
-    part-put-start
-    part-put-end
-    put-requires
+    least-requires
+    sub-least
+    least-requires-2
+    repeat-requires
     add-at
     loop-less
     loop-again
-    sub-write
-    part-write-start
-    part-write-end
-    bytes-of-requires
-    slice-aggregate-write
-    write-requires
-    same-length
-    returns)
+    same-length-2
+    returns-2)
