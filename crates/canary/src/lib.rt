@@ -13,11 +13,11 @@ ghost use Rattle.rules.specs.Canary.{filled, damage, hasDamage, filledHeap};
 // The bytes of a canary.
 const SIZE: usize = 4;
 
-// The first bytes are filled by words, and the rest by copies of them, of all that is written until that is this many:
-// longer ones the C library copies more slowly.
-const FRONT: usize = 512;
+// The first bytes are filled by words, and the rest by copies of what is written, at most so many at once: a page, since
+// shorter copies, which lie any part of a page from their source, were slower in long parts.
+const FRONT: usize = 1024;
 
-const COPY: usize = 2048;
+const COPY: usize = 4096;
 
 // A search goes by blocks of this length, then by single canaries, and then by bytes.
 const BLOCK: usize = 64;
@@ -45,7 +45,7 @@ fn fill_words(bytes: &mut [u8], canary: u32)
 
 // Writes the first bytes again, from a place on: by way of an array of its own, which the compiler makes one move.
 fn repeat(bytes: &mut [u8], at: usize, len: usize)
-    requires { ⌜ (at + len ≤ length (now bytes)) × (len ≤ 2048) ⌝ }
+    requires { ⌜ (at + len ≤ length (now bytes)) × (len ≤ 4096) ⌝ }
     ensures { λ _. ⌜ now (bytes .exit) ≡ overwrite (now (bytes .entry)) at (take len (now (bytes .entry))) ⌝ }
 {
     let mut block = [0u8; COPY];

@@ -49,7 +49,13 @@ fn request(operation: u32, argument: u32, count: u32) -> [u8; 16] {
     bytes
 }
 
-/// The request that a word names, and its source's length; `at` is an object of 256 bytes.
+/// How long the object is that the request is about: as long as the word says of a free, else 256 bytes.
+fn object(word: &str) -> u32 {
+    let size = word.strip_prefix("free-").map(str::parse);
+    size.and_then(Result::ok).unwrap_or(256)
+}
+
+/// The request that a word names, and its source's length; `at` is an object as long as `object` says.
 fn named(word: &str, at: u32) -> Option<([u8; 16], usize)> {
     Some(match word {
         "malformed" => (request(9, 0, 0), 0),
@@ -59,7 +65,7 @@ fn named(word: &str, at: u32) -> Option<([u8; 16], usize)> {
         "allocate-256" => (request(0, 256, 0), 0),
         "allocate-16384" => (request(0, 16_384, 0), 0),
         "allocate-16385" => (request(0, 16_385, 0), 0),
-        "free" => (request(1, at, 0), 0),
+        "free" | "free-8" | "free-2048" => (request(1, at, 0), 0),
         "free-inside" => (request(1, at + 1, 0), 0),
         "remaining" => (request(2, at + 1, 0), 0),
         "copy-0" => (request(3, at, 0), 0),
@@ -99,7 +105,7 @@ fn main() -> ExitCode {
     let mut heap = vec![0; HEAP];
     let mut metadata = vec![0; reference::metadata_length(HEAP)];
     reference::open(&mut heap, &mut metadata, 1, 1, 0);
-    let allocate = request(0, 256, 0);
+    let allocate = request(0, object(word), 0);
     let at = reference::serve(&mut heap, &mut metadata, &allocate, &[], &[]).value;
     if let Some(count) = called(word) {
         let read = if ours { capi::read } else { second_read };

@@ -42,10 +42,10 @@ loop-holds : tie.Need-loop-holds Inv-loop μ-loop
 loop-holds c =
     let a = c .before .before .before .before .before .before .args in
     let words = c .before .before .fill-words2 .ensures in (
-      rw (first-kept (a .canary) (a .bytes .now) 512 words (omega arith)) (omega arith),
+      rw (first-kept (a .canary) (a .bytes .now) 1024 words (omega arith)) (omega arith),
       λ more. (refl, omega arith),
       refl,
-      first-front (a .canary) (a .bytes .now) 512 words (omega arith),
+      first-front (a .canary) (a .bytes .now) 1024 words (omega arith),
     )
 
 least-requires : tie.Need-least-requires Inv-loop μ-loop
@@ -92,7 +92,7 @@ returns-2 : tie.Need-returns-2 Inv-loop μ-loop
 returns-2 c =
     let words = c .before .before .before .before in
     let a = words .before .before .before .before .args in
-    rw (first-kept (a .canary) (a .bytes .now) 512 (words .fill-words2 .ensures) (omega arith)) at
+    rw (first-kept (a .canary) (a .bytes .now) 1024 (words .fill-words2 .ensures) (omega arith)) at
     (front-all _ _ _ (c .before .loop .inv .3) (omega arith))
 
 pub fill-spec : {M : Type 1} → statement M

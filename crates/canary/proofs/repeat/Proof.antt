@@ -53,7 +53,7 @@ returns c =
     let first = c .before .before .before .before .before .before .before in
     let start = first .before .before .before .before .before in
     let a = start .args in
-    repeated (a .bytes .now) (replicate 2048 0) (a .at) (a .len) (start .pre .0) (first .copy .ensures .1) (c .before .before .copy2 .ensures .1)
+    repeated (a .bytes .now) (replicate 4096 0) (a .at) (a .len) (start .pre .0) (first .copy .ensures .1) (c .before .before .copy2 .ensures .1)
 
 pub repeat-spec : {M : Type 1} → statement M
 repeat-spec =

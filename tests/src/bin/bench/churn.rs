@@ -14,34 +14,78 @@ pub const CHILD: &str = "churn";
 
 const TURNS: usize = 2000;
 
-struct Allocator {
-    name: &'static str,
-    library: &'static str,
+struct Library {
+    file: &'static str,
     package: &'static str,
 }
 
-/// The C library's own, and three that Debian 12 has.
-const ALLOCATORS: [Allocator; 4] = [
+const GLIBC: Library = Library {
+    file: "libc.so.6",
+    package: "libc6",
+};
+
+const SCUDO: Library = Library {
+    file: "/usr/lib/llvm-14/lib/clang/14.0.6/lib/linux/libclang_rt.scudo_standalone-x86_64.so",
+    package: "libclang-rt-14-dev",
+};
+
+/// A variable of the environment, which the allocator reads when its process starts, and what it says.
+type Setting = (&'static str, &'static str);
+
+struct Allocator {
+    name: &'static str,
+    library: Library,
+    /// Set where the allocator is to fill what it frees or allocates, which it does not by itself.
+    filling: Option<Setting>,
+}
+
+/// The C library's own, and three that Debian 12 has; two of them also filling as Poheldu does. The C library fills what
+/// it frees and what it allocates, but not what goes through its cache of a thread (up to 1,032 bytes), unless it has
+/// none; Scudo fills what it allocates.
+const ALLOCATORS: [Allocator; 7] = [
     Allocator {
         name: "malloc of the C library",
-        library: "libc.so.6",
-        package: "libc6",
+        library: GLIBC,
+        filling: None,
+    },
+    Allocator {
+        name: "malloc of the C library, filling",
+        library: GLIBC,
+        filling: Some(("GLIBC_TUNABLES", "glibc.malloc.perturb=165")),
+    },
+    Allocator {
+        name: "malloc of the C library, filling, no cache",
+        library: GLIBC,
+        filling: Some((
+            "GLIBC_TUNABLES",
+            "glibc.malloc.perturb=165:glibc.malloc.tcache_count=0",
+        )),
     },
     Allocator {
         name: "mimalloc",
-        library: "/usr/lib/x86_64-linux-gnu/libmimalloc.so.2",
-        package: "libmimalloc2.0",
+        library: Library {
+            file: "/usr/lib/x86_64-linux-gnu/libmimalloc.so.2",
+            package: "libmimalloc2.0",
+        },
+        filling: None,
     },
     Allocator {
         name: "jemalloc",
-        library: "/usr/lib/x86_64-linux-gnu/libjemalloc.so.2",
-        package: "libjemalloc2",
+        library: Library {
+            file: "/usr/lib/x86_64-linux-gnu/libjemalloc.so.2",
+            package: "libjemalloc2",
+        },
+        filling: None,
     },
     Allocator {
         name: "Scudo",
-        library:
-            "/usr/lib/llvm-14/lib/clang/14.0.6/lib/linux/libclang_rt.scudo_standalone-x86_64.so",
-        package: "libclang-rt-14-dev",
+        library: SCUDO,
+        filling: None,
+    },
+    Allocator {
+        name: "Scudo, filling",
+        library: SCUDO,
+        filling: Some(("SCUDO_OPTIONS", "pattern_fill_contents=true")),
     },
 ];
 
@@ -147,18 +191,42 @@ fn theirs(take: Malloc, give: Free, objects: &mut [*mut c_void], script: &Script
     taken
 }
 
+/// Whether bytes that were written to an object are gone when its place is allocated again: blocks of 4,096 bytes, one
+/// after another, until one lies where one lay before.
+fn fills(take: Malloc, give: Free) -> bool {
+    const SIZE: usize = 4096;
+    const BYTE: u8 = 0x11;
+    let mut seen = Vec::with_capacity(1024);
+    for _ in 0..seen.capacity() {
+        // SAFETY: the block has as many bytes, and they are set before they are read.
+        unsafe {
+            let block = take(SIZE).cast::<u8>();
+            assert!(!block.is_null());
+            if seen.contains(&block) {
+                let bytes = std::slice::from_raw_parts(block, SIZE);
+                return bytes.iter().all(|&byte| byte != BYTE);
+            }
+            seen.push(block);
+            block.write_bytes(BYTE, SIZE);
+            give(block.cast());
+        }
+    }
+    panic!("no block of {SIZE} bytes is allocated again");
+}
+
 /// Measures the malloc that this process has, and prints a row.
 pub fn child(name: &str, region: usize) {
     let allocator = ALLOCATORS.iter().find(|a| a.name == name);
-    let library = allocator.expect("a known allocator").library;
+    let allocator = allocator.expect("a known allocator");
     let found = library_of_malloc();
     assert_eq!(
         Path::new(&found).file_name(),
-        Path::new(library).file_name()
+        Path::new(allocator.library.file).file_name()
     );
     let script = script(region, &mut Random::new(1));
     let mut heap = Heap::new(region);
     let (take, give) = black_box((malloc as Malloc, release as Free));
+    assert_eq!(fills(take, give), allocator.filling.is_some());
     let (mut offsets, mut objects) = (Vec::new(), Vec::new());
     for &size in &script.sizes {
         offsets.push(heap.fill(size, 1)[0]);
@@ -174,17 +242,24 @@ pub fn child(name: &str, region: usize) {
 }
 
 fn run(allocator: &Allocator, region: usize) {
-    let preloaded = allocator.library.starts_with('/');
-    if preloaded && !Path::new(allocator.library).exists() {
-        let (name, package) = (allocator.name, allocator.package);
+    let Library { file, package } = allocator.library;
+    let preloaded = file.starts_with('/');
+    if preloaded && !Path::new(file).exists() {
+        let name = allocator.name;
         return println!("| {name} | | not installed: Debian package {package} | |");
     }
     let mut command = Command::new(std::env::current_exe().expect("this program's path"));
     command.args([CHILD, allocator.name, &region.to_string()]);
     if preloaded {
-        command.env("LD_PRELOAD", allocator.library);
+        command.env("LD_PRELOAD", file);
     } else {
         command.env_remove("LD_PRELOAD");
+    }
+    for (variable, _) in ALLOCATORS.iter().filter_map(|other| other.filling) {
+        command.env_remove(variable);
+    }
+    if let Some((variable, value)) = allocator.filling {
+        command.env(variable, value);
     }
     let status = command.status().expect("this program can be run");
     assert!(status.success(), "{}: {status}", allocator.name);
