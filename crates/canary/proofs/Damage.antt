@@ -57,7 +57,8 @@ module _ (canary : ℕ) (b : List ℕ) (at : ℕ) (whole : at % 4 ≡ 0) {w : �
   -- and one that has none is the canary
   intact-word : canary < 2 ^ 32 → ((i : ℕ) → i < 4 → isDamaged canary b (at + i) ≡ false) → w ≡ canary
   intact-word h none =
-      let same : (i : ℕ) → i < 4 → getD part i 0 ≡ getD (bytesOf canary) i 0 = λ i l. differ-same (getD part i 0) (getD (bytesOf canary) i 0) (sym (byte i l) ∙ none i l) in
+      let same : (i : ℕ) → i < 4 → getD part i 0 ≡ getD (bytesOf canary) i 0 =
+      λ i l. differ-same (getD part i 0) (getD (bytesOf canary) i 0) (sym (byte i l) ∙ none i l) in
       read ∙ rw (same 0 (omega arith), same 1 (omega arith), same 2 (omega arith), same 3 (omega arith)) (word-bytes canary h)
 
 -- a loop's turn: whether the first damaged byte was passed
@@ -106,14 +107,17 @@ module _ (canary : ℕ) (b : List ℕ) (at n : ℕ) (whole : at % 4 ≡ 0) (room
       let d : ℕ = damage canary block in
       let inside : d < n = omega (arith, size, ltb-true d (length block) e) in
       let damaged : isDamaged canary block d ≡ true = first-passes (isDamaged canary block) 0 (length block) (omega (arith, size)) in
-      let found : damage canary b ≤ at + d = first-le (isDamaged canary b) 0 (length b) (at + d) (omega arith) (sym (part-byte canary b at n d whole inside) ∙ damaged) in
+      let there : isDamaged canary b (at + d) ≡ true = sym (part-byte canary b at n d whole inside) ∙ damaged in
+      let found : damage canary b ≤ at + d = first-le (isDamaged canary b) 0 (length b) (at + d) (omega arith) there in
       omega arith
 
   pub block-none : {t : Bool} → t ≡ hasDamage canary (take (at + n - at) (drop at b)) → t ≡ false → at + n ≤ damage canary b
   block-none seen is =
       let e : hasDamage canary block ≡ false = sym (rw (add-sub-cancel-left at n) at seen) ∙ is in
       let none : n ≤ damage canary block = omega (arith, size, ltb-false (damage canary block) (length block) e) in
-      intact-more canary b at n intact room (λ i l. sym (part-byte canary b at n i whole l) ∙ first-before (isDamaged canary block) 0 (length block) i (omega arith) (omega arith))
+      intact-more canary b at n intact room (λ i l.
+      sym (part-byte canary b at n i whole l)
+      ∙ first-before (isDamaged canary block) 0 (length block) i (omega arith) (omega arith))
 
 -- ---- a part, by where the first damage lies
 
@@ -155,7 +159,11 @@ module _ (canary : ℕ) (b : List ℕ) where
   none-skipped {at} before =
       record {
         inside = omega (arith, damage-le canary b);
-        rest = rw (sub-zero (length b)) at (first-skip (isDamaged canary b) {i = 0} {j = at} {n = length b} (omega arith) (omega (arith, damage-le canary b)) (λ x l u. first-before (isDamaged canary b) 0 (length b) x l (omega arith)));
+        rest =
+            rw (sub-zero (length b)) at (first-skip (isDamaged canary b) {i = 0} {j = at} {n = length b}
+            (omega arith)
+            (omega (arith, damage-le canary b))
+            (λ x l u. first-before (isDamaged canary b) 0 (length b) x l (omega arith)));
       }
 
   module _ {at : ℕ} (none : NoneBefore at) where

@@ -80,7 +80,8 @@ module _ (G : Layout) (canary : ℕ) (h : List ℕ) where
         let first : start ≡ c * G .region = omega (arith, from) in
         let (class, slot, into) = slots-hold G c x (omega (arith, first)) (omega (arith, first, to)) in
         let begun : x - start ≡ x % G .region = omega (arith, into, first) in
-        let whole : locate G x .into % 4 ≡ (x - start) % 4 = mod-mod-of-dvd 4 (x % G .region) (dvd-of-mod-eq-zero 4 (slot-size-whole G (locate G x .class))) ∙ rw begun in
+        let whole : locate G x .into % 4 ≡ (x - start) % 4 =
+        mod-mod-of-dvd 4 (x % G .region) (dvd-of-mod-eq-zero 4 (slot-size-whole G (locate G x .class))) ∙ rw begun in
         at-written now start part (omega (arith, room)) x 0 a (omega (arith, room))
         ∙ tabulate-at (canaryByte canary) 0 (end - start) (x - start) (omega arith)
         ∙ sym (byte-filled (c + 1) x (omega arith) ∙ byte-in x slot ∙ ap (λ (i : ℕ). getD (bytesOf canary) i 0) whole)

@@ -13,8 +13,8 @@ ghost use Rattle.rules.specs.Canary.{filled, damage, hasDamage, filledHeap};
 // The bytes of a canary.
 const SIZE: usize = 4;
 
-// The first bytes are filled by words, and the rest by copies of what is written, at most so many at once: a page, since
-// shorter copies, which lie any part of a page from their source, were slower in long parts.
+// The first bytes are filled by words, and the rest by copies of what is written, at most so many at once: a page,
+// since shorter copies, which lie any part of a page from their source, were slower in long parts.
 const FRONT: usize = 1024;
 
 const COPY: usize = 4096;

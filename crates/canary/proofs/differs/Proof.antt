@@ -45,7 +45,8 @@ loop-again : tie.Need-loop-again Inv-loop μ-loop
 loop-again c =
     let loop = c .before .before .before .loop in
     let start = c .before .before .before .before .before in (
-      damage-next (start .args .canary) (start .args .block .now) (loop .i) (omega arith) (λ i. omega (arith, c .before .before .before .before .shared-slice-known .given i))
+      damage-next (start .args .canary) (start .args .block .now) (loop .i) (omega arith)
+          (λ i. omega (arith, c .before .before .before .before .shared-slice-known .given i))
           (loop .inv .2) (omega (arith, start .pre)) (c .get .ensures) (loop .inv .0),
       omega (arith, start .pre),
       omega arith,

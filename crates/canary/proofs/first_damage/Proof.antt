@@ -24,7 +24,9 @@ skip-requires-2 : tie.Need-skip-requires-2 Inv-loop μ-loop
 skip-requires-2 c κs = (omega (arith, c .skip .ensures), omega (arith, c .skip .ensures), refl, omega arith)
 
 loop-holds : tie.Need-loop-holds Inv-loop μ-loop
-loop-holds c = none-skipped (c .before .before .before .before .args .canary) (c .before .before .before .before .args .bytes .now) (omega (arith, c .skip2 .ensures))
+loop-holds c =
+    let a = c .before .before .before .before .args in
+    none-skipped (a .canary) (a .bytes .now) (omega (arith, c .skip2 .ensures))
 
 shared-slice-read-if1 : tie.Need-shared-slice-read-if1 Inv-loop μ-loop
 shared-slice-read-if1 c = omega arith
@@ -35,7 +37,8 @@ array-read-if1 c = search needs
 returns : tie.Need-returns Inv-loop μ-loop
 returns c =
     let a = c .before .before .before .before .before .before .before .before .args in
-    byte-damaged (a .canary) (a .bytes .now) (c .before .before .before .loop .inv) (omega arith) (c .before .before .before .before .before .before .bytes-of .ensures) (c .if1 .taken)
+    let four = c .before .before .before .before .before .before .bytes-of .ensures in
+    byte-damaged (a .canary) (a .bytes .now) (c .before .before .before .loop .inv) (omega arith) four (c .if1 .taken)
 
 add-at : tie.Need-add-at Inv-loop μ-loop
 add-at c = omega arith
@@ -46,7 +49,8 @@ loop-less c = omega arith
 loop-again : tie.Need-loop-again Inv-loop μ-loop
 loop-again c =
     let a = c .before .before .before .before .before .before .before .before .args in
-    byte-intact (a .canary) (a .bytes .now) (c .before .before .before .loop .inv) (omega arith) (c .before .before .before .before .before .before .bytes-of .ensures) (c .if1 .left)
+    let four = c .before .before .before .before .before .before .bytes-of .ensures in
+    byte-intact (a .canary) (a .bytes .now) (c .before .before .before .loop .inv) (omega arith) four (c .if1 .left)
 
 returns-2 : tie.Need-returns-2 Inv-loop μ-loop
 returns-2 c = let a = c .before .before .before .before .before .before .args in none-damaged (a .canary) (a .bytes .now) (c .before .loop .inv) (omega arith)

@@ -1,5 +1,5 @@
 -- `skip` meets its contract. The loop's invariant: no byte before `at` is damaged, and whole blocks lie between.
-use Prim.Native.Nat.{ℕ, _-_, _%_, _≤_}
+use Prim.Native.Nat.{ℕ, _+_, _-_, _%_, _≤_}
 use mathlib.Core.Path.{_≡_, refl}
 use native.Mathlib.Omega.{arith}
 use lib.ListN.{length}
@@ -44,7 +44,9 @@ returns : tie.Need-returns Inv-loop μ-loop
 returns c =
     let loop = c .before .before .before .before .loop in
     let a = c .before .before .before .before .before .before .args in
-    let has = block-has (a .canary) (a .bytes .now) (loop .at) (a .block) (loop .inv .1) (omega (arith, c .before .before .before .before .before .before .pre .3)) (loop .inv .0) (c .before .differs .ensures) (c .if1 .taken) in
+    let room : loop .at + a .block ≤ length (a .bytes .now) = omega (arith, c .before .before .before .before .before .before .pre .3) in
+    let has =
+    block-has (a .canary) (a .bytes .now) (loop .at) (a .block) (loop .inv .1) room (loop .inv .0) (c .before .differs .ensures) (c .if1 .taken) in
     block-last (a .from) (damage (a .canary) (a .bytes .now)) (a .block) (loop .at) (loop .inv .0) has (loop .inv .2)
 
 loop-less : tie.Need-loop-less Inv-loop μ-loop
@@ -55,14 +57,17 @@ loop-again c =
     let start = c .before .before .before .before .before .before in
     let loop = c .before .before .before .before .loop in
     let a = start .args in
-    let none = block-none (a .canary) (a .bytes .now) (loop .at) (a .block) (loop .inv .1) (omega (arith, c .before .before .before .before .before .before .pre .3)) (loop .inv .0) (c .before .differs .ensures) (c .if1 .left) in
+    let room : loop .at + a .block ≤ length (a .bytes .now) = omega (arith, c .before .before .before .before .before .before .pre .3) in
+    let none =
+    block-none (a .canary) (a .bytes .now) (loop .at) (a .block) (loop .inv .1) room (loop .inv .0) (c .before .differs .ensures) (c .if1 .left) in
     (none, omega (arith, loop .inv .1, start .pre .2), block-passed (a .from) (damage (a .canary) (a .bytes .now)) (a .block) (loop .at) none (loop .inv .2))
 
 returns-2 : tie.Need-returns-2 Inv-loop μ-loop
 returns-2 c =
     let a = c .before .before .before .args in
     let loop = c .before .loop in
-    block-last (a .from) (damage (a .canary) (a .bytes .now)) (a .block) (loop .at) (loop .inv .0) (omega (arith, damage-le (a .canary) (a .bytes .now))) (loop .inv .2)
+    let end = damage (a .canary) (a .bytes .now) in
+    block-last (a .from) end (a .block) (loop .at) (loop .inv .0) (omega (arith, damage-le (a .canary) (a .bytes .now))) (loop .inv .2)
 
 pub skip-spec : {M : Type 1} → statement M
 skip-spec =
