@@ -94,7 +94,7 @@ fn main() {
             if shown { DONE } else { FAILED }
         }
         Choice::Version => {
-            let shown = program::print_version(b"assemble", b"assemble: standard output");
+            let shown = program::print(b"assemble 0.1.0\n", b"assemble: standard output");
             if shown { DONE } else { FAILED }
         }
         Choice::Unknown(word) => {

@@ -174,7 +174,7 @@ fn main() {
             if shown { DONE } else { FAILED }
         }
         Choice::Version => {
-            let shown = program::print_version(b"benchrun", b"benchrun: standard output");
+            let shown = program::print(b"benchrun 0.1.0\n", b"benchrun: standard output");
             if shown { DONE } else { FAILED }
         }
         Choice::Unknown(word) => {

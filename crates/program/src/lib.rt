@@ -80,14 +80,6 @@ pub fn print(text: &[u8], place: &[u8]) -> bool
     written
 }
 
-// Prints a program's name and the version, that of include/poheldu.h.
-pub fn print_version(name: &[u8], place: &[u8]) -> bool {
-    if !print(name, place) {
-        return false;
-    }
-    print(b" 0.1.0\n", place)
-}
-
 // More bytes of an argument than are shown.
 const ARGUMENT: usize = quoting::SHOWN + 1;
 
