@@ -161,7 +161,7 @@ fn inspections() {
 /// A free over all slot sizes: its own work, and that of its slot's bytes.
 fn frees(region: usize) {
     let title = format!(
-        "A free against a memset of its slot (target: at most 1.35 from 8,192 bytes up), in a class half full at first, regions of {} bytes",
+        "A free against a memset of its slot (target from 8,192 bytes up: 1.35), regions of {}",
         figure(region)
     );
     head(&title, "slot, bytes", &["memset", "second"]);
