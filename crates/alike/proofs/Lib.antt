@@ -1,2 +1,3 @@
 -- Laws of texts that are compared.
 pub mod Equal
+pub mod Comparing

@@ -2,6 +2,7 @@
 use Prim.Native.Nat.{ℕ, zero, suc, _+_, _*_, _/_, _%_, _^_, _-_, _≤_, _<_}
 use native.Mathlib.Nat.{mul-zero, mul-le-mul-right, pow-suc, pow-succ', div-div-eq-div-mul, zero-div}
 use native.Mathlib.Numerals.{add-one}
+use native.Mathlib.Decide.{ℕ-discrete}
 use native.Mathlib.Omega.{arith}
 use mathlib.Core.Path.{_≡_, refl, sym, ap, _∙_}
 use mathlib.Core.Bool.{Bool, true, false, cond}
@@ -102,6 +103,18 @@ leader-le table (suc n) =
     go : (t : Bool) → leader table n ≤ n - 1 → elim t [ true ↦ n | false ↦ leader table n ] ≤ suc n - 1
     go true rest = omega arith
     go false rest = omega arith
+
+-- replicas without votes do not lead after others
+pub leader-front : (table : List (List Bool)) (k n : ℕ) → 0 < k → k ≤ n
+    → ((i : ℕ) → k ≤ i → i < n → votes (getD table i []) ≡ 0) → leader table n ≡ leader table k
+unfolding leader
+leader-front table k zero h l none = absurd (omega arith)
+leader-front table k (suc n) h l none = elim (ℕ-discrete k (suc n)) [
+  | yes e ↦ rw e
+  | no e ↦
+      rw (none n (omega arith) (omega arith), le-ltb (votes (getD table (leader table n) [])) 0 (omega arith), leader)
+      (leader-front table k n h (omega arith) (λ i a b. none i a (omega arith)))
+]
 
 -- the votes of the leader of the first i replicas; of none, 0
 abbrev pub topVotes : List (List Bool) → ℕ → ℕ → ℕ

@@ -10,6 +10,7 @@ use Rattle.search.specs.Tabulate.{tabulate}
 use Rattle.answer.specs.declared.Refusal.{Refusal}
 use Rattle.answer.specs.declared.Refusal.the-variants.{InvalidVote, NoAgreement}
 use Rattle.answer.specs.Reply.{numberOf}
+use Rattle.vote.specs.declared.compare.Places.{Places}
 use Rattle.vote.specs.declared.Verdict.{Verdict}
 use Rattle.vote.specs.declared.Verdict.the-variants.{Agreed, Refused}
 
@@ -25,19 +26,25 @@ most = 16
 abbrev pub longest : ℕ
 longest = 4096
 
+-- ---- who votes, and on what
+
+-- the first k replicas, as a row of all sixteen
+abbrev pub firstOf : ℕ → List Bool
+firstOf k = tabulate (λ r. ltb r k) 0 most
+
+-- the bytes of replica r, where outputs lie one after another
+abbrev pub blockIn : List ℕ → Places → ℕ → List ℕ
+blockIn outputs p r = take (p .len) (drop (r * p .apart + p .at) outputs)
+
 -- ---- comparing
 
--- the block of replica r
-abbrev pub blockOf : List ℕ → ℕ → ℕ → List ℕ
-blockOf blocks size r = take size (drop (r * size) blocks)
-
--- replicas i and j, both of the first k, have the same block
-abbrev pub agree : List ℕ → ℕ → ℕ → ℕ → ℕ → Bool
-agree blocks k size i j = ltb i k && ltb j k && alike (blockOf blocks size i) (blockOf blocks size j)
+-- replicas i and j both vote, and for the same bytes
+abbrev pub agree : List Bool → (ℕ → List ℕ) → ℕ → ℕ → Bool
+agree voting block i j = getD voting i false && getD voting j false && alike (block i) (block j)
 
 -- a row for each replica, which says of each other whether the two agree
-abbrev pub agreements : List ℕ → ℕ → ℕ → List (List Bool)
-agreements blocks k size = tabulate (λ i. tabulate (λ j. agree blocks k size i j) 0 most) 0 most
+abbrev pub agreements : List Bool → (ℕ → List ℕ) → List (List Bool)
+agreements voting block = tabulate (λ i. tabulate (agree voting block i) 0 most) 0 most
 
 -- ---- the winner
 
@@ -78,18 +85,26 @@ pub data Decision : Type 0 where
   lost : Refusal → Decision
 
 -- the content of the leader wins if two or more share it (the paper's no two alike where they do not)
-unfoldable pub count : List ℕ → ℕ → ℕ → Decision
-count blocks k size =
-    let table : List (List Bool) = agreements blocks k size in
-    let best : ℕ = leader table k in
+unfoldable pub count : List Bool → (ℕ → List ℕ) → Decision
+count voting block =
+    let table : List (List Bool) = agreements voting block in
+    let best : ℕ = leader table most in
     elim (ltb (votes (getD table best [])) 2) [
       | true ↦ lost NoAgreement
-      | false ↦ won (getD table best []) (blockOf blocks size best)
+      | false ↦ won (getD table best []) (block best)
     ]
 
+-- blocks of one size side by side
+abbrev pub sideBySide : ℕ → ℕ → Places
+sideBySide k size = record { replicas = k; apart = size; at = 0; len = size }
+
+-- the first k replicas vote on them
 unfoldable pub decide : List ℕ → ℕ → ℕ → ℕ → Decision
 decide blocks k size outputLength =
-    elim (invalid (length blocks) k size outputLength) [ true ↦ lost InvalidVote | false ↦ count blocks k size ]
+    elim (invalid (length blocks) k size outputLength) [
+      | true ↦ lost InvalidVote
+      | false ↦ count (firstOf k) (blockIn blocks (sideBySide k size))
+    ]
 
 -- ---- what the caller sees
 

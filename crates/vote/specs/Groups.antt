@@ -1,87 +1,52 @@
 -- How comparing and counting go about their work. What the vote promises rests on `Decide` alone.
-use Prim.Native.Nat.{ℕ, zero, suc, _+_, _*_, _-_, _/_, _≤_}
-use mathlib.Core.Bool.{Bool, true, false, not, _&&_, _||_}
+use Prim.Native.Nat.{ℕ, _+_, _*_, _/_, _%_, _^_, _≤_, _<_}
+use mathlib.Core.Path.{_≡_}
+use mathlib.Core.Bool.{Bool, false, cond, _&&_}
 use mathlib.Core.List.{List, []}
-use lib.ListN.{length, getD, take, drop}
+use lib.ListN.{length, getD, take}
 use lib.Dec.{ltb, eqb}
-use Rattle.search.specs.First.{first}
-use Rattle.vote.specs.declared.elect.Elected.{Elected}
 use Rattle.alike.specs.Alike.{alike}
+use Rattle.search.specs.First.{first}
 use Rattle.search.specs.Tabulate.{tabulate}
-use Rattle.vote.specs.Decide.{blockOf, digits, votes, leader}
+use Rattle.vote.specs.declared.compare.Places.{Places}
+use Rattle.vote.specs.declared.elect.Elected.{Elected}
+use Rattle.vote.specs.Decide.{most, digits, votes, leader}
 
--- ---- what all blocks share
+-- those whose bits are set in a mask, as a row of all sixteen
+abbrev pub rowOf : ℕ → List Bool
+rowOf mask = tabulate (λ r. eqb (mask / 2 ^ r % 2) 1) 0 most
 
--- the n bytes at a place
-abbrev pub bytesAt : List ℕ → ℕ → ℕ → List ℕ
-bytesAt blocks n at = take n (drop at blocks)
+-- what is relied on: no more replicas than sixteen, and at least one; none votes past them; all bytes are there
+pub record Placed (voting : List Bool) (outputs : List ℕ) (p : Places) : Type 0 where
+  pub some : 0 < p .replicas
+  pub few : p .replicas ≤ most
+  pub none-past : (r : ℕ) → p .replicas ≤ r → getD voting r false ≡ false
+  pub within : (r : ℕ) → r < p .replicas → r * p .apart + p .at + p .len ≤ length outputs
 
--- the n bytes at four places are among the blocks
-abbrev pub AllWithin : List ℕ → ℕ → ℕ → ℕ → ℕ → ℕ → Type 0
-AllWithin blocks n a b c d =
-    let all : ℕ = length blocks in
-    (a + n ≤ all) × (b + n ≤ all) × (c + n ≤ all) × (d + n ≤ all)
+-- ---- groups: agreement goes by content, so who votes is known by the lowest one that votes for the same bytes
 
--- the bytes at three places are those at the first
-abbrev pub allAlike : List ℕ → ℕ → ℕ → ℕ → ℕ → ℕ → Bool
-allAlike blocks n a b c d =
-    let own : List ℕ = bytesAt blocks n a in
-    alike own (bytesAt blocks n b) && (alike own (bytesAt blocks n c) && alike own (bytesAt blocks n d))
+abbrev pub lowest : List Bool → (ℕ → List ℕ) → ℕ → ℕ
+lowest voting block i = first (λ r. getD voting r false && alike (block r) (block i)) 0 i
 
--- the strides that begin `at` bytes after four places are not all the same
-abbrev pub differ : List ℕ → ℕ → ℕ → ℕ → ℕ → ℕ → ℕ → Bool
-differ blocks stride a b c d at = not (allAlike blocks stride (a + at) (b + at) (c + at) (d + at))
+-- sixteen for those who do not vote
+abbrev pub groupOf : List Bool → (ℕ → List ℕ) → ℕ → ℕ
+groupOf voting block i = cond (getD voting i false) (lowest voting block i) most
 
--- how many strides from the first on are the same at four places, of `most`
-abbrev pub matching : List ℕ → ℕ → ℕ → ℕ → ℕ → ℕ → ℕ → ℕ
-matching blocks stride a b c d most = first (λ n. differ blocks stride a b c d (n * stride)) 0 most
-
--- replica i has the n-th stride of 256 bytes of replica 0
-abbrev pub follows : List ℕ → ℕ → ℕ → ℕ → Bool
-follows blocks size i n = alike (bytesAt blocks 256 (0 + n * 256)) (bytesAt blocks 256 (i * size + n * 256))
-
--- one of the first k replicas has not
-unfoldable pub strays : List ℕ → ℕ → ℕ → ℕ → Bool
-strays blocks size zero n = false
-strays blocks size (suc i) n = strays blocks size i n || not (follows blocks size i n)
-
--- how many strides from the first on are the same in the first k replicas
-abbrev pub shared : List ℕ → ℕ → ℕ → ℕ
-shared blocks size k = first (strays blocks size k) 0 (size / 256)
-
--- ---- groups: agreement goes by content, so each replica is known by the lowest one with the same block
-
--- the block that begins at a place, from byte `from` on
-abbrev pub restOf : List ℕ → ℕ → ℕ → ℕ → List ℕ
-restOf blocks size from at = bytesAt blocks (size - from) (at + from)
-
--- the lowest replica with the bytes of replica i from byte `from` on
-abbrev pub lowestFrom : List ℕ → ℕ → ℕ → ℕ → ℕ
-lowestFrom blocks size from i =
-    first (λ r. alike (restOf blocks size from (r * size)) (restOf blocks size from (i * size))) 0 i
-
--- the lowest replica with the block of replica i
-abbrev pub lowest : List ℕ → ℕ → ℕ → ℕ
-lowest blocks size i = first (λ r. alike (blockOf blocks size r) (blockOf blocks size i)) 0 i
-
--- of the first k replicas the lowest with the same block; any other is alone
-abbrev pub groupOf : List ℕ → ℕ → ℕ → ℕ → ℕ
-groupOf blocks k size i = elim (ltb i k) [ true ↦ lowest blocks size i | false ↦ i ]
-
-abbrev pub groupsOf : List ℕ → ℕ → ℕ → List ℕ
-groupsOf blocks k size = tabulate (groupOf blocks k size) 0 16
+-- of the first k replicas; any other is its own
+abbrev pub groupsOf : List Bool → (ℕ → List ℕ) → ℕ → List ℕ
+groupsOf voting block k = tabulate (λ i. cond (ltb i k) (groupOf voting block i) i) 0 most
 
 -- b in the place of a, and anything else as it is
 abbrev pub instead : ℕ → ℕ → ℕ → ℕ
-instead a b x = elim (eqb x a) [ true ↦ b | false ↦ x ]
+instead a b x = cond (eqb x a) b x
 
--- replicas i and j are of one group
-abbrev pub together : List ℕ → ℕ → ℕ → Bool
-together groups i j = eqb (getD groups i 0) (getD groups j 0)
+-- replica i votes, and j is of its group
+abbrev pub together : List Bool → List ℕ → ℕ → ℕ → Bool
+together voting groups i j = getD voting i false && eqb (getD groups i 0) (getD groups j 0)
 
 -- ---- the winner
 
--- the leader of the first k replicas, with its votes and the mask of these; k is above 0
+-- the leader of the first k replicas, with its votes and the mask of these
 abbrev pub electedOf : List (List Bool) → ℕ → Elected
 electedOf table k =
     let best : ℕ = leader table k in

@@ -3,9 +3,12 @@ mod compare;
 mod elect;
 
 use answer::Refusal;
+use compare::Places;
 ghost use mathlib.Core.Path.{_≡_};
+ghost use Prim.Native.Nat.{_≤_};
 ghost use lib.ListN.{length};
-ghost use Rattle.vote.specs.Decide.{invalid, decide, tally, tallyOf, outputAfter, NamesWinner};
+ghost use Rattle.vote.specs.Decide.{most, firstOf, invalid, decide, tally, tallyOf, outputAfter, NamesWinner};
+ghost use Rattle.vote.specs.Groups.{rowOf};
 
 const FEWEST_REPLICAS: usize = 3;
 
@@ -41,6 +44,14 @@ fn is_invalid(blocks_len: usize, replicas: usize, block_len: usize, output_len: 
     output_len < block_len
 }
 
+// The first k replicas, a bit each.
+fn first(k: usize) -> u32
+    requires { ⌜ k ≤ most ⌝ }
+    ensures { λ r. ⌜ rowOf r ≡ firstOf k ⌝ }
+{
+    (1 << k as u32) - 1
+}
+
 // Replicas lie one after another in `blocks`, a block each. The winning block goes to the front of `output`.
 pub fn vote(blocks: &[u8], replicas: usize, block_len: usize, output: &mut [u8]) -> Verdict
     ensures { λ r.
@@ -52,14 +63,18 @@ pub fn vote(blocks: &[u8], replicas: usize, block_len: usize, output: &mut [u8])
     if is_invalid(blocks.len(), replicas, block_len, output.len()) {
         return Verdict::Refused(Refusal::InvalidVote);
     }
-    let table = compare::agreements(blocks, replicas, block_len);
+    let side_by_side = Places {
+        replicas,
+        apart: block_len,
+        at: 0,
+        len: block_len,
+    };
+    let table = compare::agreements(blocks, first(replicas), side_by_side);
     let winner = elect::winner(table, replicas);
     if winner.count < 2 {
         return Verdict::Refused(Refusal::NoAgreement);
     }
-    let start = winner.replica * block_len;
-    let end = start + block_len;
-    writing::write(output, &blocks[start..end]);
+    writing::write(output, compare::block(blocks, side_by_side, winner.replica));
     Verdict::Agreed {
         mask: winner.mask,
         count: winner.count,

@@ -4,7 +4,7 @@ use native.Mathlib.Omega.{arith}
 use mathlib.Core.Path.{refl, sym, _∙_}
 use lib.ListN.{length}
 use Rattle.vote.specs.Decide.{decide}
-use Rattle.vote.proofs.Decision.{Allowed, allowed, Found}
+use Rattle.vote.proofs.Decision.{Allowed, allowed, placed, Found}
 use Rattle.vote.proofs.Decision.{found-small, found-block, found-lost, found-won, found-named, found-put}
 use borrow.Author.Needs.{needs}
 use Rattle.vote.proofs.vote.Statement.{statement}
@@ -25,57 +25,48 @@ allowed-here c = allowed (sym (c .before .is-invalid .ensures) ∙ c .if1 .left)
 
 -- the table and its winner
 found-here : (c : tie.After-winner)
-    → let a = c .before .before .before .before .before .before .args in
+    → let a = c .before .before .before .before .before .before .before .args in
     Found (a .blocks .now) (a .replicas) (a .block-len) (length (a .output .now)) (c .winner .result)
 found-here c =
     record {
-      numbers = allowed-here (c .before .before);
-      elects = rw (← c .before .agreements .ensures) (c .winner .ensures);
+      numbers = allowed-here (c .before .before .before);
+      elects = rw (← c .before .before .first .ensures, ← c .before .agreements .ensures) (c .winner .ensures);
     }
 
+first-requires : tie.Need-first-requires
+first-requires c κs = allowed-here c .few
+
 agreements-requires : tie.Need-agreements-requires
-agreements-requires c κs = let n = allowed-here c in (n .whole, n .some, n .few)
+agreements-requires c κs = rw (c .first .ensures) (placed (allowed-here (c .before)))
 
 winner-requires : tie.Need-winner-requires
-winner-requires c κs = let n = allowed-here (c .before) in (n .some, n .few)
+winner-requires c κs = let n = allowed-here (c .before .before) in (n .some, n .few)
 
 returns-2 : tie.Need-returns-2
 returns-2 c = rw (found-lost (found-here (c .before .before)) (c .if2 .taken)) ((refl, refl), λ z. omega arith)
 
-mul-start : tie.Need-mul-start
-mul-start c = omega (arith, found-block (found-here (c .before .before .before)))
-
-add-end : tie.Need-add-end
-add-end c = omega (arith, found-block (found-here (c .before .before .before)))
-
-sub-write : tie.Need-sub-write
-sub-write c = search needs
-
-part-write-start : tie.Need-part-write-start
-part-write-start c = search needs
-
-part-write-end : tie.Need-part-write-end
-part-write-end c = found-block (found-here (c .before .before .before .before))
+block-requires : tie.Need-block-requires
+block-requires c κs = found-block (found-here (c .before .before .before))
 
 write-requires : tie.Need-write-requires
 write-requires c κs = search needs
 
-cast-t20 : tie.Need-cast-t20
-cast-t20 c =
+cast-t12 : tie.Need-cast-t12
+cast-t12 c =
     let d = c .before .before .before .before .before .before in
-    omega (arith, found-small (found-here (d .before .before .before)))
+    omega (arith, found-small (found-here (d .before .before)))
 
 same-length : tie.Need-same-length
 same-length c = search needs
 
 returns-3 : tie.Need-returns-3
 returns-3 c =
-    let d = c .before .before .before .before .before .before .before in
+    let d = c .before .before .before .before .before .before in
     let e = found-here (d .before .before) in
     let won = found-won e (d .if2 .left) in
-    let output = d .before .before .before .before .before .before .before .before .args .output .now in
-    let put = c .before .before .before .write .ensures .1 ∙ found-put e output refl in
-    rw (won .0, won .1, won .2) ((refl, put), λ z. found-named e)
+    let output = d .before .before .before .before .before .before .before .before .before .args .output .now in
+    let put = rw (c .before .before .before .before .block .ensures .0) at (c .before .before .before .write .ensures .1) in
+    rw (won .0, won .1, won .2) ((refl, put ∙ found-put e output refl), λ z. found-named e)
 
 pub vote-spec : {M : Type 1} → statement M
 vote-spec =
@@ -83,15 +74,12 @@ vote-spec =
     (tie.spec
     is-invalid-requires
     returns
+    first-requires
     agreements-requires
     winner-requires
     returns-2
-    mul-start
-    add-end
-    sub-write
-    part-write-start
-    part-write-end
+    block-requires
     write-requires
-    cast-t20
+    cast-t12
     same-length
     returns-3)

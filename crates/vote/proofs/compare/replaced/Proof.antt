@@ -1,7 +1,10 @@
--- `replaced` meets its contract. The loop's invariant: the groups passed are replaced.
+-- `replaced` meets its contract. The loop's invariant: the entries passed are replaced.
 use Prim.Native.Nat.{_-_}
 use native.Mathlib.Omega.{arith}
+use mathlib.Core.Path.{_∙_}
+use mathlib.Core.Logic.{⊎-elim}
 use lib.ListN.{getD}
+use borrow.Author.Tests.{eq-eqb, ne-eqb}
 use Rattle.vote.specs.Groups.{instead}
 use Rattle.vote.proofs.Tables.{Filled, filled-none, filled-more, filled-all}
 use Rattle.vote.proofs.compare.replaced.Statement.{statement}
@@ -16,11 +19,11 @@ abbrev μ-loop : tie.MeasureT-loop
 loop-holds : tie.Need-loop-holds Inv-loop μ-loop
 loop-holds c = filled-none
 
-array-read-instead : tie.Need-array-read-instead Inv-loop μ-loop
-array-read-instead c = omega arith
+array-read-if1 : tie.Need-array-read-if1 Inv-loop μ-loop
+array-read-if1 c = omega arith
 
-instead-requires : tie.Need-instead-requires Inv-loop μ-loop
-instead-requires c κs = omega arith
+array-read-out : tie.Need-array-read-out Inv-loop μ-loop
+array-read-out c = omega arith
 
 array-write-out : tie.Need-array-write-out Inv-loop μ-loop
 array-write-out c = omega arith
@@ -32,7 +35,12 @@ loop-less : tie.Need-loop-less Inv-loop μ-loop
 loop-less c = omega arith
 
 loop-again : tie.Need-loop-again Inv-loop μ-loop
-loop-again c = filled-more (c .before .before .loop .inv) (omega arith) (c .instead .ensures)
+loop-again c =
+    let l = c .before .before .loop in
+    ⊎-elim
+    (λ w. filled-more (l .inv) (omega arith) (w .1 ∙ rw (eq-eqb _ _ (w .0 .taken))))
+    (λ w. filled-more (l .inv) (omega arith) (w .1 ∙ rw (ne-eqb _ _ (w .0 .left))))
+    (c .if1 .came)
 
 returns : tie.Need-returns Inv-loop μ-loop
 returns c = filled-all (c .before .loop .inv) (λ j l m. absurd (omega arith))
@@ -44,8 +52,8 @@ replaced-spec =
     Inv-loop
     μ-loop
     loop-holds
-    array-read-instead
-    instead-requires
+    array-read-if1
+    array-read-out
     array-write-out
     add-j
     loop-less

@@ -1,18 +1,28 @@
 -- `row` meets its contract. The loop's invariant: the entries before this one are those of the row.
 use Prim.Native.Nat.{_-_}
 use native.Mathlib.Omega.{arith}
-use mathlib.Core.Path.{refl}
+use mathlib.Core.Path.{sym, _∙_}
 use mathlib.Core.Bool.{false}
-use Rattle.vote.specs.Groups.{together}
+use borrow.Author.Tests.{not-true, not-false}
+use Rattle.vote.specs.Groups.{rowOf, together}
 use Rattle.vote.proofs.Tables.{Filled, filled-none, filled-more, filled-all}
+use Rattle.vote.proofs.Comparing.{apart}
 use Rattle.vote.proofs.compare.row.Statement.{statement}
 use Rattle.vote.proofs.compare.row.Tie as tie
 
 abbrev Inv-loop : tie.InvT-loop
-Inv-loop i groups own out₀ j₀ out j = Filled (together groups i) false out j
+Inv-loop voting i groups out₀ own j₀ out j = Filled (together (rowOf voting) groups i) false out j
 
 abbrev μ-loop : tie.MeasureT-loop
-μ-loop i groups own out₀ j₀ out j = 16 - j
+μ-loop voting i groups out₀ own j₀ out j = 16 - j
+
+votes-requires : tie.Need-votes-requires Inv-loop μ-loop
+votes-requires c κs = omega arith
+
+returns : tie.Need-returns Inv-loop μ-loop
+returns c =
+    let a = c .before .before .args in
+    apart (rowOf (a .voting)) (a .t1) (a .i) (sym (c .before .votes .ensures) ∙ not-true _ (c .if1 .taken))
 
 array-read-own : tie.Need-array-read-own Inv-loop μ-loop
 array-read-own c = omega arith
@@ -33,10 +43,12 @@ loop-less : tie.Need-loop-less Inv-loop μ-loop
 loop-less c = omega arith
 
 loop-again : tie.Need-loop-again Inv-loop μ-loop
-loop-again c = filled-more (c .before .loop .inv) (omega arith) refl
+loop-again c =
+    let in-it = sym (c .before .before .before .votes .ensures) ∙ not-false _ (c .before .before .if1 .left) in
+    filled-more (c .before .loop .inv) (omega arith) (rw in-it)
 
-returns : tie.Need-returns Inv-loop μ-loop
-returns c = filled-all (c .before .loop .inv) (λ j l m. absurd (omega arith))
+returns-2 : tie.Need-returns-2 Inv-loop μ-loop
+returns-2 c = filled-all (c .before .loop .inv) (λ j l m. absurd (omega arith))
 
 pub row-spec : {M : Type 1} → statement M
 row-spec =
@@ -44,6 +56,8 @@ row-spec =
     (tie.spec
     Inv-loop
     μ-loop
+    votes-requires
+    returns
     array-read-own
     loop-holds
     array-read-out
@@ -51,4 +65,4 @@ row-spec =
     add-j
     loop-less
     loop-again
-    returns)
+    returns-2)
