@@ -1,2 +1,3 @@
+-- What the opening leaves, and that all requests that are ready are served.
 pub mod Serving
 pub mod Opening

@@ -1,1 +1,2 @@
+-- Laws of a word as it is shown.
 pub mod Showing

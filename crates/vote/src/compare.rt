@@ -24,7 +24,8 @@ pub fn block(outputs: &[u8], p: Places, replica: usize) -> &[u8]
     requires { ⌜ replica * p .apart + p .at + p .len ≤ length (now outputs) ⌝ }
     ensures { λ r.
         let all = outputs .entry .ptr in
-        ⌜ (now r ≡ blockIn (now (outputs .entry)) p replica) × (r .ptr ≡ (all .0, replica * p .apart + p .at + all .1)) ⌝ }
+        ⌜ (now r ≡ blockIn (now (outputs .entry)) p replica)
+        × (r .ptr ≡ (all .0, replica * p .apart + p .at + all .1)) ⌝ }
 {
     let start = replica * p.apart + p.at;
     let end = start + p.len;
