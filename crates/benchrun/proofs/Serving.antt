@@ -1,9 +1,9 @@
 -- Where there is room, all requests that are ready are served, and what is left stays at the front of the input.
-use Prim.Native.Nat.{ℕ, zero, suc, _+_, _-_, _*_, _≤_}
+use Prim.Native.Nat.{ℕ, zero, suc, _+_, _-_, _≤_}
 use native.Mathlib.Nat.{sub-zero}
 use native.Mathlib.Omega.{arith}
-use mathlib.Core.Path.{_≡_, refl, _∙_}
-use mathlib.Core.Bool.{Bool, true, false}
+use mathlib.Core.Path.{_≡_, _∙_}
+use mathlib.Core.Bool.{Bool}
 use mathlib.Core.List.{List, [], _++_}
 use lib.ListN.{length, take, drop, length-take, length-drop}
 use Rattle.writing.specs.Overwrite.{overwrite}
@@ -11,7 +11,6 @@ use Rattle.writing.proofs.Parts.{front-written}
 use Rattle.request.specs.Parse.{requestSize}
 use Rattle.rules.specs.Serve.{lent}
 use Rattle.rules.specs.Call.{State, stateAfter}
-use Rattle.replay.specs.Line.{lineRoom}
 use Rattle.replay.specs.Batch.{replay, requests, batchOf}
 use Rattle.replay.specs.Pieces.{ready, rest, replayAll}
 use Rattle.replay.proofs.Cutting.{batch-all}

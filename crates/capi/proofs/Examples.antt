@@ -5,7 +5,7 @@ use mathlib.Core.List.{List, [], _∷_, map}
 use lib.ListN.{drop, set, replicate}
 use Rattle.search.specs.First.{first}
 use Rattle.geometry.specs.Layout.{slotSize, bitmapAt}
-use Rattle.rules.specs.Judge.{judge, admit}
+use Rattle.rules.specs.Judge.{lengths, admit}
 use Rattle.rules.specs.Object.{space}
 use Rattle.rules.specs.Read.{read}
 use Rattle.rules.specs.Call.{serving, reading}
@@ -42,10 +42,10 @@ part number value ofPage start =
 -- in a region without slots; refused past the heap's end
 reads : map (readFour twoLive) (0 ∷ 7_170 ∷ 8_190 ∷ 8 ∷ 8_192 ∷ 12_288 ∷ [])
     ≡ part 0 4 0 0 ∷ part 0 4 0 7_170 ∷ part 0 2 0 8_190 ∷ part 0 3 1 0 ∷ part 0 3 1 0 ∷ part 8 0 1 0 ∷ []
-unfolding twoLive readFour first slotSize bitmapAt judge admit space read serving
+unfolding twoLive readFour first slotSize bitmapAt lengths admit space read serving
 reads = refl
 
 -- refused in a live object, since the metadata are a byte short
 short-metadata : readFour (drop 1 twoLive) 7_170 ≡ part 3 0 1 0
-unfolding twoLive readFour first slotSize bitmapAt judge admit space read serving
+unfolding twoLive readFour first slotSize bitmapAt lengths admit space read serving
 short-metadata = refl

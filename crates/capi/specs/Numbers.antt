@@ -4,8 +4,8 @@ use mathlib.Core.Bool.{cond}
 use lib.Dec.{eqb}
 use Rattle.answer.specs.Reply.{Reply}
 use Rattle.geometry.specs.Layout.{regionOf, layoutOf, metadataLength}
-use Rattle.rules.specs.declared.Place.{Place}
-use Rattle.rules.specs.declared.Place.the-variants.{Heap, Page}
+use Rattle.view.specs.declared.Place.{Place}
+use Rattle.view.specs.declared.Place.the-variants.{Heap, Page}
 use Rattle.rules.specs.Call.{Call}
 use Rattle.vote.specs.Decide.{Tally}
 use Rattle.capi.specs.declared.PohelduAnswer.{PohelduAnswer}

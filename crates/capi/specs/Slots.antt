@@ -8,7 +8,7 @@ use Rattle.geometry.specs.declared.Layout.{Layout}
 use Rattle.geometry.specs.declared.Location.{Location}
 use Rattle.geometry.specs.Layout.{classes, slotSize, slots, slotStart, locate}
 use Rattle.rules.specs.Metadata.{canaryOf}
-use Rattle.rules.specs.Judge.{judge, onceLaid}
+use Rattle.rules.specs.Judge.{lengths, onceLaid}
 use Rattle.capi.specs.declared.PohelduSlot.{PohelduSlot}
 
 abbrev pub noSlot : PohelduSlot
@@ -36,13 +36,13 @@ allSlots G = slotsBefore G classes
 -- ---- of a heap's length and its metadata
 
 abbrev pub nthSlot : ℕ → List ℕ → ℕ → ℕ → PohelduSlot
-nthSlot heapBytes m c i = onceLaid (λ _. noSlot) (λ G. slotOf G c i) (judge heapBytes (length m))
+nthSlot heapBytes m c i = onceLaid (λ _. noSlot) (λ G. slotOf G c i) (lengths heapBytes (length m))
 
 abbrev pub findSlot : ℕ → List ℕ → ℕ → PohelduSlot
-findSlot heapBytes m x = onceLaid (λ _. noSlot) (λ G. slotAt G x) (judge heapBytes (length m))
+findSlot heapBytes m x = onceLaid (λ _. noSlot) (λ G. slotAt G x) (lengths heapBytes (length m))
 
 abbrev pub countSlots : ℕ → List ℕ → ℕ
-countSlots heapBytes m = onceLaid (λ _. 0) allSlots (judge heapBytes (length m))
+countSlots heapBytes m = onceLaid (λ _. 0) allSlots (lengths heapBytes (length m))
 
 abbrev pub storedPattern : ℕ → List ℕ → ℕ
-storedPattern heapBytes m = onceLaid (λ _. 0) (λ _. canaryOf m) (judge heapBytes (length m))
+storedPattern heapBytes m = onceLaid (λ _. 0) (λ _. canaryOf m) (lengths heapBytes (length m))

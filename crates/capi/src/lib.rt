@@ -7,7 +7,7 @@ ghost use lib.ListN.{length};
 ghost use Rattle.answer.specs.Reply.{replyOf};
 ghost use Rattle.rules.specs.Open.{setup};
 ghost use Rattle.rules.specs.Serve.{lentWith};
-ghost use Rattle.rules.specs.Call.{call, reading, opening};
+ghost use Rattle.rules.specs.Call.{serve, reading, opening};
 ghost use Rattle.rules.specs.Inspect.{inspection};
 ghost use Rattle.vote.specs.Decide.{decide, tally, outputAfter, NamesWinner};
 ghost use Rattle.capi.specs.Numbers.{replyIn, tallyIn, partOf, metadataBytes, interface};
@@ -17,7 +17,7 @@ use geometry::CANARY;
 use geometry::Plan;
 use numbers::wide;
 use rules::Judged;
-use rules::Place;
+use view::Place;
 use vote::Verdict;
 
 #[repr(C)]
@@ -86,7 +86,7 @@ pub extern "C" fn poheldu_serve(
 ) -> PohelduAnswer
     ensures { λ r.
         let beside = lentWith (now (source .entry)) (now (page .entry)) in
-        let called = call (length (now (heap .entry))) (now (metadata .entry)) (now (request .entry)) beside in
+        let called = serve (length (now (heap .entry))) (now (metadata .entry)) (now (request .entry)) beside in
         ⌜ (replyIn r ≡ called .answer) × (now (metadata .exit) ≡ called .metadata)
         × (now (heap .exit) ≡ called .heap (now (heap .entry))) ⌝ }
 {

@@ -42,6 +42,12 @@ slot-start-le G {c} {i} h l =
 pub slots-end-le : (G : Layout) {c : ℕ} → c < classes → c * G .region + slots G c * slotSize G c ≤ heapLength G
 slots-end-le G {c} h = slot-start-le G h (le-refl (slots G c))
 
+-- a slot ends within the heap
+pub slot-inside : (G : Layout) (c i : ℕ) → i < slots G c → slotStart G c i + slotSize G c ≤ heapLength G
+slot-inside G c i h =
+    let next : slotStart G c (suc i) ≤ heapLength G = slot-start-le G (slots-class G c i h) h in
+    omega (arith, suc-mul i (slotSize G c))
+
 -- a byte of a slot is located there, so slots share no byte
 pub slot-located : (G : Layout) (c i x : ℕ) → i < slots G c → slotStart G c i ≤ x → x < slotStart G c i + slotSize G c
     → (locate G x .class ≡ c) × (locate G x .slot ≡ i)

@@ -15,14 +15,15 @@ use Rattle.geometry.proofs.Geometry.{class-le}
 use Rattle.bitmap.specs.Bitmap.{setSlot}
 use Rattle.answer.specs.declared.Refusal.the-variants.{UnsupportedSize, ClassTooSmall, ClassAtCapacity, CorruptMetadata}
 use Rattle.answer.specs.Reply.{served}
-use Rattle.rules.specs.declared.Found.{Found}
+use Rattle.probe.specs.declared.Found.{Found}
 use Rattle.writing.specs.Overwrite.{overwrite}
 use Rattle.rules.specs.Metadata.{generatorOf, withGenerator, countOf, withCount}
 use Rattle.rules.proofs.Metadata.{part-bitmap}
 use Rattle.heap.specs.Relied.{bitsOf}
 use Rattle.answer.specs.Checks.{_when_, checked}
 use Rattle.rules.specs.Outcome.{Outcome, refused, reply, metadataAfter}
-use Rattle.rules.specs.Allocate.{draws, probe, foundIn, taken, allocate}
+use Rattle.probe.specs.Probe.{draws, probe}
+use Rattle.rules.specs.Allocate.{foundIn, taken, allocate}
 use Rattle.heap.proofs.Part.{part-changed}
 
 -- ---- taking a slot

@@ -9,7 +9,7 @@ use Rattle.rules.specs.Outcome.{Outcome, metadataAfter, heapAfter}
 use Rattle.rules.specs.Allocate.{allocate}
 use Rattle.rules.specs.Object.{remaining, copy}
 use Rattle.rules.specs.Read.{read}
-use Rattle.rules.proofs.Results.{Comes, refuses, serves, allocate-comes, remaining-comes, copy-comes, read-comes}
+use Rattle.rules.proofs.Outcomes.{Comes, refuses, serves, allocate-comes, remaining-comes, copy-comes, read-comes}
 
 -- a refusal leaves the heap and the metadata alone
 heap-left : (G : Layout) (m h : List ℕ) {o o′ : Outcome} → Comes o o′ → heapAfter G m h o ≡ h → h ≡ heapAfter G m h o′

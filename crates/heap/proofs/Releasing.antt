@@ -18,7 +18,7 @@ use Rattle.rules.specs.Metadata.{canaryOf}
 use Rattle.rules.specs.Canary.{canaryByte, filled}
 use Rattle.rules.specs.Outcome.{Outcome, freed, reply, heapAfter}
 use Rattle.rules.specs.Object.{free}
-use Rattle.rules.proofs.Results.{Comes, refuses, serves, free-comes}
+use Rattle.rules.proofs.Outcomes.{Comes, refuses, serves, free-comes}
 use Rattle.rules.proofs.Finding.{free-finds}
 
 module _ (G : Layout) (m h : List ℕ) (offset : ℕ) where

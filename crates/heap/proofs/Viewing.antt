@@ -7,13 +7,15 @@ use lib.ListN.{length}
 use Rattle.geometry.specs.declared.Layout.{Layout}
 use Rattle.geometry.specs.Layout.{heapLength}
 use Rattle.answer.specs.declared.Refusal.the-variants.{OutOfRange}
-use Rattle.rules.specs.declared.View.{View}
-use Rattle.rules.specs.View.{viewBytes, addressOf, placeWithin}
+use Rattle.view.specs.declared.View.{View}
+use Rattle.view.specs.View.{viewBytes, addressOf, placeWithin}
 use Rattle.rules.specs.Outcome.{refused, shown}
 use Rattle.rules.specs.Object.{space}
-use Rattle.rules.specs.Read.{viewIn, read}
+use Rattle.view.specs.View.{within}
+use Rattle.rules.specs.Read.{read}
 use Rattle.rules.specs.Call.{Call, reading}
-use Rattle.rules.proofs.Showing.{view-length, view-within, shown-lies, shown-value}
+use Rattle.view.proofs.Lying.{view-length, view-within}
+use Rattle.rules.proofs.Showing.{shown-lies, shown-value}
 
 module _ (G : Layout) (m : List ℕ) (offset count pageBytes : ℕ) where
   pub past-end : heapLength G ≤ offset → read G m offset count pageBytes ≡ refused OutOfRange
@@ -21,7 +23,7 @@ module _ (G : Layout) (m : List ℕ) (offset count pageBytes : ℕ) where
   past-end h = rw (le-leb (heapLength G) offset h)
 
   pub shows : offset < heapLength G → {room : ℕ} → room ≡ space G m offset
-      → read G m offset count pageBytes ≡ shown (viewIn offset room count pageBytes)
+      → read G m offset count pageBytes ≡ shown (within offset room count pageBytes)
   unfolding read
   shows inside measured = rw (lt-leb (heapLength G) offset inside, measured)
 

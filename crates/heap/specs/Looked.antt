@@ -1,7 +1,7 @@
 -- What a read comes to, to its caller.
 use Rattle.answer.specs.Reply.{Reply, served, refusedBy}
-use Rattle.rules.specs.declared.View.{View}
-use Rattle.rules.specs.View.{noView}
+use Rattle.view.specs.declared.View.{View}
+use Rattle.view.specs.View.{noView}
 use Rattle.heap.specs.declared.reading.Looked.{Looked}
 use Rattle.heap.specs.declared.reading.Looked.the-variants.{Shown, Refused}
 

@@ -1,12 +1,12 @@
 // A class's bitmap, reached in one way: the part of the metadata that holds it is passed on, with its number of slots.
 use geometry::Part;
 use mwc::Generator;
-use rules::Found;
+use probe::Found;
 ghost use mathlib.Core.Path.{_≡_};
 ghost use lib.ListN.{length};
 ghost use Rattle.bitmap.specs.Bitmap.{isSet, setSlot, clearSlot};
 ghost use Rattle.writing.specs.Overwrite.{overwrite};
-ghost use Rattle.rules.specs.Allocate.{draws, probe};
+ghost use Rattle.probe.specs.Probe.{draws, probe};
 ghost use Rattle.heap.specs.Relied.{Within, bitsOf};
 
 pub fn is_set(metadata: &[u8], part: Part, slot: usize) -> bool

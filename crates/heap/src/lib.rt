@@ -19,11 +19,11 @@ ghost use mathlib.Core.Path.{_≡_};
 ghost use lib.ListN.{length};
 ghost use Rattle.answer.specs.Reply.{replyOf};
 ghost use Rattle.request.specs.Parse.{parse};
-ghost use Rattle.rules.specs.View.{viewBytes, addressOf};
+ghost use Rattle.view.specs.View.{viewBytes, addressOf};
 ghost use Rattle.rules.specs.Judge.{Fits};
 ghost use Rattle.rules.specs.Open.{setup};
 ghost use Rattle.rules.specs.Serve.{lentWith, perform, act};
-ghost use Rattle.rules.specs.Call.{calledBy, call, reading, opening};
+ghost use Rattle.rules.specs.Call.{calledBy, serve, reading, opening};
 ghost use Rattle.heap.specs.Looked.{answerOf, viewShown};
 
 // Writes fresh metadata for a heap of this length, and the canary into every slot.
@@ -92,7 +92,7 @@ fn act(
         ⌜ (replyOf r ≡ called .answer) × (now (metadata .exit) ≡ called .metadata)
         × (now (heap .exit) ≡ called .heap (now (heap .entry))) ⌝ }
 {
-    let Parsed::Whole(whole) = request::read(request) else {
+    let Parsed::Whole(whole) = request::parse(request) else {
         return Answer::Refused(Refusal::MalformedRequest);
     };
     perform(heap, metadata, layout, whole, source, page)
@@ -108,7 +108,7 @@ pub fn serve(
 ) -> Answer
     ensures { λ r.
         let beside = lentWith (now (source .entry)) (now (page .entry)) in
-        let called = call (length (now (heap .entry))) (now (metadata .entry)) (now (request .entry)) beside in
+        let called = serve (length (now (heap .entry))) (now (metadata .entry)) (now (request .entry)) beside in
         ⌜ (replyOf r ≡ called .answer) × (now (metadata .exit) ≡ called .metadata)
         × (now (heap .exit) ≡ called .heap (now (heap .entry))) ⌝ }
 {

@@ -11,10 +11,10 @@ ghost use mathlib.Core.Path.{_≡_};
 ghost use Prim.Native.Nat.{_≤_};
 ghost use lib.ListN.{length};
 ghost use Rattle.geometry.specs.Layout.{header};
-ghost use Rattle.rules.specs.Judge.{judge, anyOver, admit};
+ghost use Rattle.rules.specs.Judge.{lengths, anyOver, admit};
 
 pub fn lengths(heap_len: usize, metadata_len: usize) -> Judged
-    ensures { λ r. ⌜ r ≡ judge «heap_len» «metadata_len» ⌝ }
+    ensures { λ r. ⌜ r ≡ lengths «heap_len» «metadata_len» ⌝ }
 {
     let plan = Plan::of(heap_len);
     let layout = plan.layout;

@@ -12,8 +12,9 @@ use Rattle.mwc.specs.Draw.{isOneOf}
 use Rattle.geometry.specs.Layout.{slotSize, bitmapAt}
 use Rattle.bitmap.specs.Bitmap.{putByte, nextClear}
 use Rattle.request.specs.Parse.{parse}
-use Rattle.rules.specs.Judge.{judge, admit}
-use Rattle.rules.specs.Allocate.{probe, allocate}
+use Rattle.rules.specs.Judge.{lengths, admit}
+use Rattle.probe.specs.Probe.{probe}
+use Rattle.rules.specs.Allocate.{allocate}
 use Rattle.rules.specs.Object.{free, space, remaining, copy}
 use Rattle.rules.specs.Read.{read}
 use Rattle.rules.specs.Call.{serving, opening}
@@ -55,20 +56,20 @@ each (r ∷ rows) e (suc i) h = each rows (both (alike (r .computed) (r .expecte
 
 computes : allAlike table ≡ true
 unfolding allAlike table start answerTo after oneObject numbers copying bytesVoted voting row indexOf indexAfter first
-    isOneOf slotSize bitmapAt putByte nextClear parse judge admit probe allocate free space remaining copy serving opening
+    isOneOf slotSize bitmapAt putByte nextClear parse lengths admit probe allocate free space remaining copy serving opening
     alike tabulate digits leader count decide
 computes = refl
 
 further-computes : allAlike further ≡ true
 unfolding allAlike further lastSet firstSet atCapacity afterSeven letters kept nearHalf classFive onlySlotSet counting
     shownWith shownThere eachAbove opened clear answerTo after start oneObject copying placeOf showing numbers voting row
-    indexOf indexAfter first isOneOf slotSize bitmapAt putByte nextClear parse judge admit probe allocate free space
+    indexOf indexAfter first isOneOf slotSize bitmapAt putByte nextClear parse lengths admit probe allocate free space
     remaining copy read serving opening alike tabulate digits leader count decide
 further-computes = refl
 
 canaries-compute : allAlike canaries ≡ true
 unfolding allAlike canaries openedWith newly overUneven part overrun freeing newHits noneClear fewClear laterClear changed
-    twoHit inspecting numbers row first those isOneOf slotSize bitmapAt putByte parse judge admit probe allocate free
+    twoHit inspecting numbers row first those isOneOf slotSize bitmapAt putByte parse lengths admit probe allocate free
     serving opening inspection alike tabulate
 canaries-compute = refl
 

@@ -6,13 +6,13 @@ use Rattle.mwc.specs.declared.Generator.{Generator}
 use Rattle.geometry.specs.Layout.{layoutOf, classes, metadataLength}
 use Rattle.request.specs.Parse.{requestBytes}
 use Rattle.answer.specs.Reply.{Reply}
-use Rattle.rules.specs.declared.Place.{Place}
-use Rattle.rules.specs.declared.Place.the-variants.{Heap, Page}
+use Rattle.view.specs.declared.Place.{Place}
+use Rattle.view.specs.declared.Place.the-variants.{Heap, Page}
 use Rattle.rules.specs.Metadata.{withGenerator}
-use Rattle.rules.specs.View.{viewBytes}
+use Rattle.view.specs.View.{viewBytes}
 use Rattle.rules.specs.Open.{setup}
 use Rattle.rules.specs.Serve.{lentWith, lent}
-use Rattle.rules.specs.Call.{Call, call, opening}
+use Rattle.rules.specs.Call.{Call, serve, opening}
 use Rattle.rules.specs.Inspect.{Inspection, inspection}
 use Rattle.vote.specs.Decide.{Decision, Tally, decide, tally, outputAfter}
 
@@ -68,10 +68,10 @@ read offset count = requestBytes 6 offset count
 
 -- the answer to a request on metadata m, and the metadata after it
 unfoldable pub answerTo : ℕ → List ℕ → List ℕ → List ℕ
-answerTo R m r = numbers (call (heapOf R) m r (lent []) .answer)
+answerTo R m r = numbers (serve (heapOf R) m r (lent []) .answer)
 
 unfoldable pub after : ℕ → List ℕ → List ℕ → List ℕ
-after R m r = call (heapOf R) m r (lent []) .metadata
+after R m r = serve (heapOf R) m r (lent []) .metadata
 
 -- where bytes lie that are shown: 0 and their offset in the heap, or 1 for the front of the page
 unfoldable pub placeOf : Place → List ℕ
@@ -81,7 +81,7 @@ placeOf Page = 1 ∷ []
 -- the answer to a request that is lent a heap and a page, and where the bytes lie that it shows, and these bytes
 unfoldable pub showing : List ℕ → List ℕ → ℕ → List ℕ → List ℕ → List ℕ
 showing heap page R m r =
-    let c : Call = call (heapOf R) m r (lentWith [] page) in
+    let c : Call = serve (heapOf R) m r (lentWith [] page) in
     numbers (c .answer) ++ (placeOf (c .view .place) ++ viewBytes (c .view) heap page)
 
 -- the answer to an inspection of a heap with metadata m, and then the list that it was lent

@@ -9,7 +9,7 @@ use Rattle.writing.specs.Overwrite.{overwrite}
 use Rattle.geometry.specs.Layout.{layoutOf, countsAt, canaryAt, header}
 use Rattle.rules.specs.Open.{setup}
 use Rattle.rules.specs.Serve.{lent}
-use Rattle.rules.specs.Call.{Call, State, stateOf, callOn, stateAfter, opening}
+use Rattle.rules.specs.Call.{Call, State, stateOf, serveOn, stateAfter, opening}
 use Rattle.rules.specs.Inspect.{isHit}
 use Rattle.known_answers.specs.Calls.{Row, row, numbers, heapOf, allocate, free, inspecting}
 
@@ -48,7 +48,7 @@ overrun =
 unfoldable pub freeing : List ℕ → ℕ → List ℕ
 freeing m offset =
     let s : State = stateOf (overrun .heap) m in
-    let c : Call = callOn s (free offset) (lent []) in
+    let c : Call = serveOn s (free offset) (lent []) in
     numbers (c .answer) ++ part 639 10 (c .heap (s .heap))
 
 -- ---- inspections

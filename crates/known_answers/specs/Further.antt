@@ -8,7 +8,7 @@ use Rattle.words.specs.Word.{putWord}
 use Rattle.geometry.specs.Layout.{layoutOf, header, classOf}
 use Rattle.request.specs.Parse.{requestBytes}
 use Rattle.rules.specs.Serve.{lent}
-use Rattle.rules.specs.Call.{call}
+use Rattle.rules.specs.Call.{serve}
 use Rattle.known_answers.specs.Calls.{Row, row, heapOf, opened, clear, allocate, free, remaining, copyBytes}
 use Rattle.known_answers.specs.Calls.{copyString, copyPadded, read, answerTo, after, showing, voting}
 use Rattle.known_answers.specs.Table.{copying}
@@ -73,7 +73,7 @@ shownThere = shownWith (0x70 ∷ 0x71 ∷ 0x72 ∷ [])
 unfoldable pub eachAbove : ℕ → ℕ → List ℕ
 eachAbove R more =
     let m : ℕ → List ℕ = λ c. putWord (clear R 1 1) (8 + 4 * c) (R / (16 * 2 ^ c) + more) in
-    tabulate (λ c. call (heapOf R) (m c) (remaining 0) (lent []) .answer .number) 0 12
+    tabulate (λ c. serve (heapOf R) (m c) (remaining 0) (lent []) .answer .number) 0 12
 
 -- ---- the table
 

@@ -7,7 +7,7 @@ use Rattle.geometry.specs.declared.Layout.{Layout}
 use Rattle.geometry.specs.Layout.{layoutOf, classOf, metadataLength}
 use Rattle.rules.specs.Open.{setup}
 use Rattle.rules.specs.Serve.{lent}
-use Rattle.rules.specs.Call.{Call, call, opening}
+use Rattle.rules.specs.Call.{Call, serve, opening}
 use Rattle.known_answers.specs.Calls.{Row, row, seeds, numbers, heapOf, allocate, free, copyBytes, copyString}
 use Rattle.known_answers.specs.Calls.{copyPadded, answerTo, after, voting}
 
@@ -30,7 +30,7 @@ oneObject = after R start (allocate 5)
 -- hex
 unfoldable pub copying : List ℕ → List ℕ → List ℕ
 copying r source =
-    let c : Call = call (heapOf R) oneObject r (lent source) in
+    let c : Call = serve (heapOf R) oneObject r (lent source) in
     numbers (c .answer) ++ take 9 (drop 640 (c .heap (replicate (heapOf R) 0xff)))
 
 -- votes on blocks of one byte

@@ -1,19 +1,17 @@
 -- A line cut at its comment and its end.
-use Prim.Native.Nat.{ℕ, _+_, _-_, _≤_, _<_, min}
-use mathlib.Core.Path.{_≡_, refl, _∙_}
+use Prim.Native.Nat.{ℕ, _+_, _-_, _≤_, _<_}
+use mathlib.Core.Path.{_≡_, refl}
 use mathlib.Core.Bool.{Bool, true, false}
 use mathlib.Core.List.{List, [], _∷_, _++_}
 use native.Mathlib.Nat.{sub-zero}
-use native.Mathlib.Decide.{decLt}
 use native.Mathlib.Omega.{arith}
 use borrow.Author.Tests.{lt-ltb, le-ltb, eq-eqb, ne-eqb}
-use lib.ListN.{length, take, drop, getD, length-append, length-take, length-drop}
+use lib.ListN.{length, take, getD, length-append, length-take}
 use lib.Seq.{take-length, take-append-seam, getD-append-seam}
 use lib.Dec.{eqb}
 use Rattle.bytes.specs.Bytes.{slice, indexOf}
-use Rattle.line.specs.Text.{wordAt, carriageReturn, trimmedEnd, trimmed}
+use Rattle.line.specs.Text.{carriageReturn, trimmedEnd, trimmed}
 use Rattle.line.specs.Line.{statement, hash, longestLine, readText, readLine}
-use Rattle.line.specs.declared.Word.{Word}
 use Rattle.line.specs.declared.Line.the-variants.{TooLong}
 
 module _ (line : List ℕ) where

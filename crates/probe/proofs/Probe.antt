@@ -8,7 +8,7 @@ use native.Mathlib.Omega.{arith}
 use Rattle.mwc.specs.declared.Generator.{Generator}
 use Rattle.mwc.specs.Draw.{next, drawn}
 use Rattle.bitmap.specs.Bitmap.{isSet, nextClear}
-use Rattle.rules.specs.Allocate.{probe}
+use Rattle.probe.specs.Probe.{probe}
 
 module _ (b : List ℕ) (n last : ℕ) (g : Generator) where
   module _ {g′ : Generator} {i : ℕ} (stepped : g′ ≡ next g) (tested : i ≡ drawn g′ % n) where

@@ -2,11 +2,16 @@
 use mwc::Generator;
 use numbers::power_remainder;
 use numbers::wide;
-use rules::Found;
 ghost use mathlib.Core.Path.{_≡_};
-ghost use Rattle.rules.specs.Allocate.{draws, probe};
+ghost use Rattle.probe.specs.Probe.{draws, probe};
 
 const DRAWS: usize = 32;
+
+// A slot, and the generator after the draws that led to it.
+pub struct Found {
+    pub slot: usize,
+    pub generator: Generator,
+}
 
 // The slot that the draws choose, or the next clear one above the last slot tested where all of them meet set slots.
 pub fn find(bitmap: &[u8], slots: usize, start: Generator) -> Found

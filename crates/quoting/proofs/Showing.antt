@@ -5,7 +5,7 @@ use mathlib.Core.List.{List, [], _∷_, _++_, map, map-append, append-assoc}
 use native.Mathlib.Numerals.{add-one}
 use native.Mathlib.Omega.{arith}
 use borrow.Author.Tests.{le-leb, lt-leb}
-use lib.ListN.{length, take, getD, set, replicate, length-append, length-take, length-map, length-replicate}
+use lib.ListN.{length, take, getD, set, replicate, length-append}
 use lib.Seq.{take-length, take-suc, take-at}
 use Rattle.alike.specs.Text.{bytes}
 use Rattle.numbers.proofs.Cut.{take-min}

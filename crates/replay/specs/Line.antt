@@ -6,7 +6,7 @@ use mathlib.Core.List.{List, [], _∷_, _++_}
 use Rattle.answer.specs.Reply.{Reply}
 use Rattle.decimal.specs.Decimal.{width, decimal}
 use Rattle.rules.specs.Serve.{lent}
-use Rattle.rules.specs.Call.{State, callOn}
+use Rattle.rules.specs.Call.{State, serveOn}
 
 -- a number and a byte after it
 abbrev pub field : ℕ → ℕ → List ℕ
@@ -25,4 +25,4 @@ hasRoom n = leb lineRoom n
 
 -- the line of a request
 abbrev pub lineFor : State → List ℕ → List ℕ → ℕ → List ℕ
-lineFor s request source number = lineOf number (callOn s request (lent source) .answer)
+lineFor s request source number = lineOf number (serveOn s request (lent source) .answer)

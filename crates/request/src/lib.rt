@@ -55,7 +55,7 @@ fn count_allowed(code: u32, count: u32) -> bool
 }
 
 // What any bytes come to.
-pub fn read(bytes: &[u8]) -> Parsed
+pub fn parse(bytes: &[u8]) -> Parsed
     ensures { λ r. ⌜ r ≡ parse (now (bytes .entry)) ⌝ }
 {
     if bytes.len() != SIZE {

@@ -1,10 +1,9 @@
 -- The theorem on what a request leaves alone in the heap; the same of an opening; and that filling all slots afterwards makes no difference of it.
-use Prim.Native.Nat.{ℕ, suc, _+_, _-_, _<_, _≤_}
+use Prim.Native.Nat.{ℕ, _+_, _-_, _<_, _≤_}
 use mathlib.Core.Path.{_≡_, refl, sym, ap, ap₂, _∙_}
 use mathlib.Core.Bool.{Bool, true, false, true≢false}
 use mathlib.Core.Logic.{_↔_}
 use mathlib.Core.List.{List}
-use native.Mathlib.Nat.{suc-mul}
 use native.Mathlib.Decide.{decLt}
 use native.Mathlib.Omega.{arith}
 use borrow.Author.Tests.{lt-ltb, le-ltb, eq-eqb, leb-false}
@@ -16,7 +15,7 @@ use Rattle.mwc.specs.Draw.{isUnusable}
 use Rattle.geometry.specs.declared.Layout.{Layout}
 use Rattle.geometry.specs.declared.Location.{Location}
 use Rattle.geometry.specs.Layout.{layoutOf, heapLength, slotSize, slots, slotStart, locate}
-use Rattle.geometry.proofs.Slots.{slots-class, slot-start-le, slot-located, located-at, into-lt}
+use Rattle.geometry.proofs.Slots.{slot-inside, slot-located, located-at, into-lt}
 use Rattle.request.specs.declared.Kind.{Kind}
 use Rattle.request.specs.declared.Request.the-variants.{Allocate, Free, Remaining, Copy, Read}
 use Rattle.request.specs.Parse.{parse}
@@ -24,24 +23,24 @@ use Rattle.request.specs.declared.Parsed.{Parsed}
 use Rattle.request.specs.declared.Parsed.the-variants.{Whole, Malformed}
 use Rattle.writing.specs.Overwrite.{overwrite}
 use Rattle.writing.proofs.Writing.{overwrite-length}
-use Rattle.writing.proofs.Parts.{at-before, at-after}
+use Rattle.writing.proofs.Parts.{at-before, at-written, at-after}
 use Rattle.rules.specs.declared.Judged.{Judged}
 use Rattle.rules.specs.declared.Judged.the-variants.{Laid, Unfit}
-use Rattle.rules.specs.Judge.{judge, admit}
+use Rattle.rules.specs.Judge.{lengths, admit}
 use Rattle.rules.specs.Metadata.{canaryOf}
-use Rattle.rules.specs.Canary.{filled, filledByte, filledHeap}
+use Rattle.rules.specs.Canary.{canaryByte, filled, filledByte, filledHeap}
 use Rattle.rules.specs.Open.{Setup}
 use Rattle.rules.specs.Outcome.{Outcome, freed, told, heapAfter}
 use Rattle.rules.specs.Object.{isLive, space, free, writes, copy}
 use Rattle.rules.specs.Serve.{Lent, act}
-use Rattle.rules.specs.Call.{call, opening}
+use Rattle.rules.specs.Call.{serve, opening}
 use Rattle.rules.specs.Changing.{InSlot, SameSlot, InRest, MayChange, KeptBut}
 use Rattle.rules.proofs.Space.{live-lt, space-within}
 use Rattle.rules.proofs.Clipping.{writes-le}
 use Rattle.rules.proofs.Finding.{passed, free-finds}
-use Rattle.rules.proofs.Results.{Comes, refuses, serves, allocate-comes, free-comes, remaining-comes, copy-comes, read-comes}
+use Rattle.rules.proofs.Outcomes.{Comes, refuses, serves, allocate-comes, free-comes, remaining-comes, copy-comes, read-comes}
 use Rattle.rules.proofs.Serving.{admit-fits, serving-acts, serving-unfit, opening-unfit, opening-unusable, opening-served, laid-fits}
-use Rattle.rules.proofs.Refusing.{call-refused}
+use Rattle.rules.proofs.Refusing.{serve-refused}
 
 -- ---- the words of the theorem, worded otherwise
 
@@ -117,7 +116,7 @@ module _ {P : ℕ → Type 0} {h : List ℕ} where
   kept-all {after} f k = ext-getD 0 after h (k .size) (λ x l. k .bytes x (f x))
 
   -- where some were written over
-  kept-around : (a : ℕ) (ys : List ℕ) → a + length ys ≤ length h → ((x : ℕ) → a ≤ x → x < a + length ys → P x) → KeptBut P h (overwrite h a ys)
+  pub kept-around : (a : ℕ) (ys : List ℕ) → a + length ys ≤ length h → ((x : ℕ) → a ≤ x → x < a + length ys → P x) → KeptBut P h (overwrite h a ys)
   kept-around a ys room f =
       record {
         size = overwrite-length h a ys room;
@@ -133,6 +132,23 @@ module _ {P : ℕ → Type 0} {h : List ℕ} where
 -- ---- what a request comes to
 
 module _ (G : Layout) (m h : List ℕ) (fits : length h ≡ heapLength G) where
+  -- a slot that is freed is filled from its start to its end, and nothing else is
+  module _ (c i : ℕ) (some : i < slots G c) where
+    abbrev part : List ℕ
+    part = filled (canaryOf m) (slotSize G c)
+
+    room : slotStart G c i + length part ≤ length h
+    room = rw tabulate-length (omega (arith, slot-inside G c i some))
+
+    pub freed-filled : (k : ℕ) → k < slotSize G c → getD (heapAfter G m h (freed c i)) (slotStart G c i + k) 0 ≡ canaryByte (canaryOf m) k
+    freed-filled k inside =
+        at-written h (slotStart G c i) part room (slotStart G c i + k) 0 (omega arith) (rw tabulate-length (omega arith))
+        ∙ ap (λ (n : ℕ). getD part n 0) (let e : slotStart G c i + k - slotStart G c i ≡ k = omega arith in e)
+        ∙ tabulate-at (canaryByte (canaryOf m)) 0 (slotSize G c) k inside
+
+    pub freed-around : KeptBut (λ x. (locate G x .class ≡ c) × (locate G x .slot ≡ i)) h (heapAfter G m h (freed c i))
+    freed-around = kept-around (slotStart G c i) part room (λ x l u. slot-located G c i x some l (omega (arith, rw tabulate-length at u)))
+
   -- a refusal changes nothing, so what is served is enough
   kept-served : {P : ℕ → Type 0} {o o′ : Outcome} → Comes o o′ → (o′ ≡ o → KeptBut P h (heapAfter G m h o)) → KeptBut P h (heapAfter G m h o′)
   kept-served (refuses r) f = kept-same refl
@@ -144,13 +160,10 @@ module _ (G : Layout) (m h : List ℕ) (fits : length h ≡ heapLength G) where
       let l : Location = locate G offset in
       let (at, some, set, count) = free-finds G m offset e in
       let live : isLive G m l ≡ true = rw (lt-ltb (l .slot) (slots G (l .class)) some, eq-eqb _ 1 set) in
-      let next : slotStart G (l .class) (suc (l .slot)) ≤ heapLength G = slot-start-le G (slots-class G (l .class) (l .slot) some) some in
       let begins : l .into ≡ 0 = omega (arith, located-at G offset) in
-      kept-around (slotStart G (l .class) (l .slot)) (filled (canaryOf m) (slotSize G (l .class)))
-      (rw tabulate-length (omega (arith, suc-mul (l .slot) (slotSize G (l .class)))))
-      (λ x k u. free-slot G m offset x .1 (begins, live, slot-located G (l .class) (l .slot) x some k (omega (arith, rw tabulate-length at u))))
+      kept-more (λ x same. free-slot G m offset x .1 (begins, live, same)) (freed-around (l .class) (l .slot) some)
 
-  copy-keeps : (offset : ℕ) (kind : Kind) (source : List ℕ) → let bytes = writes kind source (space G m offset) in
+  pub copy-keeps : (offset : ℕ) (kind : Kind) (source : List ℕ) → let bytes = writes kind source (space G m offset) in
       copy G m offset kind source ≡ told (length bytes) offset bytes → KeptBut (InRest G m offset) h (overwrite h offset bytes)
   unfolding copy
   copy-keeps offset kind source e =
@@ -160,7 +173,7 @@ module _ (G : Layout) (m h : List ℕ) (fits : length h ≡ heapLength G) where
       let (room, small) = space-within G m offset inside in
       kept-around offset bytes (omega arith) (λ x k u. (k, omega arith))
 
-  act-keeps : (beside : Lent) (p : Parsed) → KeptBut (MayChange G m p) h (heapAfter G m h (act G m beside p))
+  pub act-keeps : (beside : Lent) (p : Parsed) → KeptBut (MayChange G m p) h (heapAfter G m h (act G m beside p))
   act-keeps beside (Whole (Allocate size)) = kept-served (allocate-comes G m size) (λ e. kept-same refl)
   act-keeps beside (Whole (Free offset)) = kept-served (free-comes G m offset) (free-keeps offset)
   act-keeps beside (Whole (Remaining offset)) = kept-served (remaining-comes G m offset) (λ e. kept-same (take-append-drop offset h))
@@ -199,9 +212,9 @@ module _ (G : Layout) (canary : ℕ) where
 
 -- An opening changes bytes of slots alone.
 pub opening-keeps : (h m : List ℕ) (s : Setup) → KeptBut (InSlot (layoutOf (length h))) h (opening (length h) m s .heap h)
-opening-keeps h m s = go (judge (length h) (length m)) (isUnusable (s .seeds)) refl refl
+opening-keeps h m s = go (lengths (length h) (length m)) (isUnusable (s .seeds)) refl refl
   where
-    go : (j : Judged) (t : Bool) → judge (length h) (length m) ≡ j → isUnusable (s .seeds) ≡ t
+    go : (j : Judged) (t : Bool) → lengths (length h) (length m) ≡ j → isUnusable (s .seeds) ≡ t
         → KeptBut (InSlot (layoutOf (length h))) h (opening (length h) m s .heap h)
     go (Unfit r) t e f = rw (opening-unfit (length h) m s e) (kept-same refl)
     go (Laid G) true e f = rw (opening-unusable (length h) m s e f) (kept-same refl)
@@ -212,12 +225,12 @@ opening-keeps h m s = go (judge (length h) (length m)) (isUnusable (s .seeds)) r
 -- On a heap of any bytes and length and metadata of any bytes and length, a request of any bytes, whatever is lent beside it, keeps the heap's length and
 -- every byte that it may not change; where it is refused it keeps all.
 pub request-keeps : (h m request : List ℕ) (beside : Lent)
-    → let c = call (length h) m request beside in
+    → let c = serve (length h) m request beside in
     KeptBut (MayChange (layoutOf (length h)) m (parse request)) h (c .heap h) × ((c .answer .number ≡ 0 → ⊥) → c .heap h ≡ h)
-request-keeps h m request beside = (go (admit (length h) m) refl, λ f. call-refused (length h) m request beside f .heap h)
+request-keeps h m request beside = (go (admit (length h) m) refl, λ f. serve-refused (length h) m request beside f .heap h)
   where
     go : (j : Judged) → admit (length h) m ≡ j
-        → KeptBut (MayChange (layoutOf (length h)) m (parse request)) h (call (length h) m request beside .heap h)
+        → KeptBut (MayChange (layoutOf (length h)) m (parse request)) h (serve (length h) m request beside .heap h)
     go (Unfit r) e = rw (serving-unfit (length h) m beside (parse request) e) (kept-same refl)
     go (Laid G) e =
         let (same, fits) = admit-fits (length h) m e in
@@ -225,7 +238,7 @@ request-keeps h m request beside = (go (admit (length h) m) refl, λ f. call-ref
 
 module _ (h m request : List ℕ) (beside : Lent) where
   abbrev after : List ℕ
-  after = call (length h) m request beside .heap h
+  after = serve (length h) m request beside .heap h
 
   -- It changes bytes of slots alone.
   pub slots-alone : KeptBut (InSlot (layoutOf (length h))) h after

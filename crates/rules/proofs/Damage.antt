@@ -1,9 +1,8 @@
 -- An inspection's hits are exactly the clear slots that hold a byte other than the canary's.
-use Prim.Native.Nat.{ℕ, suc, _+_, _<_, _≤_}
+use Prim.Native.Nat.{ℕ, _+_, _<_, _≤_}
 use mathlib.Core.Path.{_≡_, sym, ap, subst, _∙_}
 use mathlib.Core.Bool.{true, false, not, _&&_, and-false, and-eq-true-iff}
 use mathlib.Core.List.{List}
-use native.Mathlib.Nat.{suc-mul}
 use native.Mathlib.Omega.{arith}
 use borrow.Author.Tests.{eqb-true, eqb-false, ltb-true, not-true, ne-eqb, lt-ltb}
 use lib.Dec.{eqb, ltb}
@@ -15,7 +14,7 @@ use Rattle.search.proofs.Rising.{rising-same}
 use Rattle.geometry.specs.declared.Layout.{Layout}
 use Rattle.geometry.specs.declared.Location.{Location}
 use Rattle.geometry.specs.Layout.{heapLength, slotSize, slots, slotStart, locate}
-use Rattle.geometry.proofs.Slots.{slot-size-pos, slots-class, slot-start-le, slot-located, located-start, slot-start-into}
+use Rattle.geometry.proofs.Slots.{slot-size-pos, slot-inside, slot-located, located-start, slot-start-into}
 use Rattle.bitmap.specs.Bitmap.{bit, isSet}
 use Rattle.bitmap.proofs.Slot.{is-clear}
 use Rattle.rules.specs.Metadata.{canaryOf, bitmapOf}
@@ -31,12 +30,6 @@ module _ (G : Layout) (m : List ℕ) (c i : ℕ) (slot : i < slots G c) where
 
   pub bit-clear : bit (bitmapOf G c m) i ≡ 0 → isSet (bitmapOf G c m) (slots G c) i ≡ false
   bit-clear e = rw e (and-false (ltb i (slots G c)))
-
--- a slot ends within the heap
-pub slot-inside : (G : Layout) (c i : ℕ) → i < slots G c → slotStart G c i + slotSize G c ≤ heapLength G
-slot-inside G c i slot =
-    let next : slotStart G c (suc i) ≤ heapLength G = slot-start-le G (slots-class G c i slot) slot in
-    omega (arith, suc-mul i (slotSize G c))
 
 module _ (G : Layout) (h : List ℕ) (c i : ℕ) where
   -- a byte of a slot

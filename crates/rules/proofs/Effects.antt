@@ -9,16 +9,16 @@ use lib.ListN.{length, drop, replicate, length-take, length-replicate}
 use lib.Seq.{getD-take, getD-drop}
 use Rattle.mwc.specs.declared.Generator.{Generator}
 use Rattle.geometry.specs.declared.Layout.{Layout}
-use Rattle.geometry.specs.Layout.{classes, longestRegion, classOf, slots, slotStart, bitmapAt, bitmapLength, metadataLength}
+use Rattle.geometry.specs.Layout.{classes, longestRegion, classOf, slots, slotStart, locate, bitmapAt, bitmapLength, metadataLength}
 use Rattle.geometry.proofs.Geometry.{bitmap-after}
-use Rattle.geometry.proofs.Slots.{slots-le, slots-class}
+use Rattle.geometry.proofs.Slots.{slots-le, slots-class, slot-size-pos, slot-located, slot-start-into}
 use Rattle.bitmap.specs.Bitmap.{bit}
 use Rattle.bitmap.proofs.Slot.{bit-past}
 use Rattle.bitmap.proofs.Change.{Turned, set-turns, clear-turns}
 use Rattle.writing.specs.Overwrite.{overwrite}
 use Rattle.rules.specs.Metadata.{withGenerator, countOf, withCount, canaryOf, bitmapOf}
 use Rattle.rules.specs.Open.{Setup, fresh}
-use Rattle.rules.specs.Outcome.{allocated, freed, metadataAfter}
+use Rattle.rules.specs.Outcome.{allocated, freed, reply, metadataAfter}
 use Rattle.rules.specs.Allocate.{allocate}
 use Rattle.rules.specs.Object.{free}
 use Rattle.writing.proofs.Writing.{overwrite-length}
@@ -60,6 +60,13 @@ pub record Changed (G : Layout) (m m′ : List ℕ) (c i v : ℕ) : Type 0 where
   pub count : countOf c m′ + liveBit G m c i ≡ countOf c m + v
   pub others : (d : ℕ) → d < classes → (d ≡ c → ⊥) → countOf d m′ ≡ countOf d m
   pub canary : canaryOf m′ ≡ canaryOf m
+
+-- the offset that a served allocation answers lies at the start of the slot taken
+pub allocated-located : (G : Layout) (c i : ℕ) (g : Generator) → i < slots G c → let l = locate G (reply G (allocated c i g) .value) in
+    (l .class ≡ c) × (l .slot ≡ i) × (l .into ≡ 0)
+allocated-located G c i g slot =
+    let (class, same) = slot-located G c i (slotStart G c i) slot (omega arith) (omega (arith, slot-size-pos G c i slot)) in
+    (class, same, slot-start-into G c i slot)
 
 module _ (G : Layout) (m : List ℕ) (valid : Valid G m) where
   -- a bitmap with one slot's bit turned is written back, and the count is stored

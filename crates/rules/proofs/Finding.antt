@@ -1,23 +1,22 @@
 -- What a served allocation and a served free found in the metadata.
-use Prim.Native.Nat.{ℕ, zero, suc, _/_, _%_, _<_}
+use Prim.Native.Nat.{ℕ, _/_, _<_}
 use mathlib.Core.Path.{_≡_, refl, sym, subst}
 use mathlib.Core.Bool.{Bool, true, false, cond, not, and-eq-true-iff}
 use mathlib.Core.List.{List}
-use native.Mathlib.Nat.{mod-lt}
 use native.Mathlib.Omega.{arith}
 use lib.Dec.{leb, ltb, eqb}
 use borrow.Author.Tests.{leb-false, eqb-true, eqb-false, not-false}
 use Rattle.answer.specs.declared.Refusal.{Refusal}
 use Rattle.rules.specs.Outcome.{Outcome, refused, allocated, freed, told, shown}
 use Rattle.mwc.specs.declared.Generator.{Generator}
-use Rattle.mwc.specs.Draw.{next, drawn}
 use Rattle.geometry.specs.declared.Layout.{Layout}
 use Rattle.geometry.specs.Layout.{classes, classOf, slots, heapLength, slotStart, locate}
-use Rattle.bitmap.specs.Bitmap.{isSet, countSet, bit}
-use Rattle.bitmap.proofs.Slot.{Clear, is-clear, is-set}
-use Rattle.bitmap.proofs.Walk.{next-clear, next-room}
+use Rattle.bitmap.specs.Bitmap.{bit}
+use Rattle.bitmap.proofs.Slot.{Clear, is-set}
+use Rattle.probe.proofs.Chosen.{probe-clear}
 use Rattle.rules.specs.Metadata.{generatorOf, countOf, bitmapOf}
-use Rattle.rules.specs.Allocate.{probe, draws, foundIn, allocate}
+use Rattle.probe.specs.Probe.{draws}
+use Rattle.rules.specs.Allocate.{foundIn, allocate}
 use Rattle.geometry.specs.declared.Location.{Location}
 use Rattle.geometry.proofs.Slots.{located-start}
 use Rattle.rules.specs.Object.{isLive, isStart, free}
@@ -34,34 +33,6 @@ Unrefused (shown v) = Unit {0}
 pub passed : (t : Bool) (r : Refusal) (x y : Outcome) → Unrefused y → cond t (refused r) x ≡ y → (t ≡ false) × (x ≡ y)
 passed true r x y s e = absurd (subst Unrefused (sym e) s)
 passed false r x y s e = (refl, e)
-
-module _ (b : List ℕ) (n : ℕ) where
-  -- a slot that the draws end at is clear
-  probe-clear : (g : Generator) (last k : ℕ) → probe b n g last k .slot < n → Clear b n (probe b n g last k .slot)
-  unfolding probe
-  probe-clear g last zero h = next-clear b n last h
-  probe-clear g last (suc k) h = go (isSet b n i) refl (probe-clear (next g) i k)
-    where
-      i : ℕ
-      i = drawn (next g) % n
-
-      go : (t : Bool) → isSet b n i ≡ t → (probe b n (next g) i k .slot < n → Clear b n (probe b n (next g) i k .slot))
-          → Clear b n (probe b n g last (suc k) .slot)
-      go true e rest = rw (e, probe) (rest (rw (e, probe) at h))
-      go false e rest = rw (e, probe) (is-clear b n i (rw (e, probe) at h) e)
-
-  -- and where not all are set they end at one
-  pub probe-room : countSet b n < n → (g : Generator) (last k : ℕ) → probe b n g last k .slot < n
-  unfolding probe
-  probe-room room g last zero = next-room b n last room
-  probe-room room g last (suc k) = go (isSet b n i) refl (probe-room room (next g) i k)
-    where
-      i : ℕ
-      i = drawn (next g) % n
-
-      go : (t : Bool) → isSet b n i ≡ t → probe b n (next g) i k .slot < n → probe b n g last (suc k) .slot < n
-      go true e rest = rw (e, probe) rest
-      go false e rest = rw (e, probe) (mod-lt (drawn (next g)) (omega arith))
 
 -- a clear slot of the size's class, which counts less than half of its slots
 pub allocate-finds : (G : Layout) (m : List ℕ) (size : ℕ) {c i : ℕ} {g : Generator} → allocate G m size ≡ allocated c i g

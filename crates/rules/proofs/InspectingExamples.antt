@@ -1,33 +1,22 @@
--- Examples of the words that the theorems on inspections are made of: what they hold of, and near misses.
+-- Examples of heaps that hold the same bytes in clear slots, and near misses.
 use Prim.Native.Nat.{ℕ, _+_, _*_, _<_}
 use mathlib.Core.Path.{_≡_, refl, sym, _∙_}
 use mathlib.Core.Bool.{false, true≢false}
-use mathlib.Core.List.{List, [], _∷_, _++_}
+use mathlib.Core.List.{List}
 use native.Mathlib.Omega.{arith}
-use lib.ListN.{length, take, drop, getD, set, replicate, length-set}
+use lib.ListN.{length, getD, set, replicate, length-set}
 use lib.Seq.{getD-set-same, getD-set-other}
 use Rattle.search.specs.First.{first}
 use Rattle.geometry.specs.declared.Layout.{Layout}
-use Rattle.geometry.specs.Layout.{classes, heapLength, layoutOf, slotSize, slots, countsAt, bitmapAt, locate}
-use Rattle.bitmap.specs.Bitmap.{putByte}
-use Rattle.request.specs.Parse.{parse, requestBytes}
-use Rattle.answer.specs.Reply.{served}
-use Rattle.rules.specs.Metadata.{withGenerator}
-use Rattle.rules.specs.Judge.{judge, admit}
-use Rattle.rules.specs.Object.{isLive, space, copy}
-use Rattle.rules.specs.Serve.{Lent, lent, lentWith}
-use Rattle.rules.specs.Allocate.{probe, allocate}
-use Rattle.rules.specs.Read.{read}
-use Rattle.rules.specs.Call.{State, stateOf, callOn, serving}
-use Rattle.rules.specs.Inspected.{ClearAlike, undisturbed}
+use Rattle.geometry.specs.Layout.{classes, heapLength, layoutOf, slotSize, slots, bitmapAt, locate}
+use Rattle.rules.specs.Object.{isLive}
+use Rattle.rules.specs.Inspected.{ClearAlike}
 use Rattle.rules.proofs.Alike.{alike-either}
 
 -- a heap with regions of 1,024 bytes: class 0 has 128 slots of 8 bytes, class 5 four of 256 (from 5,120 on), class 7, the last that has any, one of
 -- 1,024 (from 7,168 on), and from 8,192 on there are none
 abbrev G : Layout
 G = layoutOf (classes * 1_024)
-
--- ---- the same bytes in clear slots
 
 -- two heaps that differ in one byte are alike where it lies in no clear slot, and else they are not
 module _ (m h : List ℕ) (x v : ℕ) where
@@ -89,31 +78,3 @@ module _ (h : List ℕ) (v : ℕ) where
     unlike-last : (getD h 8_191 0 ≡ v → ⊥) → ClearAlike G (living 0) h (set h 8_191 v) → ⊥
     unfolding bitmapAt slotSize first
     unlike-last other = one-unlike (living 0) h 8_191 v (omega arith) other (omega arith) refl
-
--- ---- requests where nobody else writes
-
--- zeros, but for a generator that places the first object of class 0 at 640
-abbrev blank : State
-blank = stateOf (replicate (heapLength G) 0) (withGenerator (replicate 94 0) (record { z = 1; w = 1 }))
-
-abbrev allocating : List ℕ × Lent
-allocating = (requestBytes 0 5 0, lent [])
-
-abbrev copying : List ℕ × Lent
-copying = (requestBytes 3 640 0, lent (7 ∷ 8 ∷ 9 ∷ []))
-
--- of no live object, so that the page is shown
-abbrev reading : List ℕ × Lent
-reading = (requestBytes 6 100 2, lentWith [] (4 ∷ 5 ∷ []))
-
--- an object is placed, a page read, and three bytes copied into the object: they lie there, and it is counted and its bit set
-each-served : let s = undisturbed blank (allocating ∷ reading ∷ copying ∷ []) in
-    (take 5 (drop 639 (s .heap)) ≡ 0 ∷ 7 ∷ 8 ∷ 9 ∷ 0 ∷ [])
-    × (drop countsAt (s .metadata) ≡ 1 ∷ replicate 61 0 ++ (1 ∷ replicate 23 0))
-unfolding undisturbed serving admit judge first bitmapAt slotSize parse allocate probe putByte copy read space
-each-served = (refl, refl)
-
--- what is lent beside a request reaches it: two bytes of the page are shown
-page-shown : callOn blank (reading .0) (reading .1) .answer ≡ served 2
-unfolding serving admit judge first bitmapAt slotSize parse read space
-page-shown = refl

@@ -1,33 +1,18 @@
--- The theorems on requests, runs, openings and inspections, the laws that lead to them, and examples.
+-- The laws and theorems on openings, single requests and inspections, and examples.
 pub mod Accepting
 pub mod Clipping
 pub mod Metadata
 pub mod Space
 pub mod Finding
+pub mod Outcomes
 pub mod Effects
-pub mod Results
 pub mod Serving
 pub mod Refusing
 pub mod Seeding
 pub mod Showing
-pub mod Pairing
-pub mod Objects
-pub mod Tracking
-pub mod Sane
-pub mod Runs
-pub mod Drawing
 pub mod Damage
 pub mod Alike
 pub mod Inspecting
-pub mod Undisturbed
-pub mod Clean
-pub mod Places
-pub mod Wordings
-pub mod Traits
-pub mod Lasting
-pub mod Restated
-pub mod Examples
+pub mod InspectingExamples
 pub mod Changing
 pub mod ChangingExamples
-pub mod RunExamples
-pub mod InspectingExamples

@@ -11,11 +11,11 @@ use Rattle.answer.specs.declared.Refusal.the-variants.{UnusableSeed}
 use Rattle.request.specs.Parse.{parse}
 use Rattle.rules.specs.declared.Judged.{Judged}
 use Rattle.rules.specs.declared.Judged.the-variants.{Laid, Unfit}
-use Rattle.rules.specs.Judge.{judge, admit}
+use Rattle.rules.specs.Judge.{lengths, admit}
 use Rattle.rules.specs.Open.{Setup}
 use Rattle.rules.specs.Outcome.{Outcome, refused, allocated, freed, told, shown}
 use Rattle.rules.specs.Serve.{Lent, act}
-use Rattle.rules.specs.Call.{calledBy, unserved, call, opening}
+use Rattle.rules.specs.Call.{calledBy, unserved, serve, opening}
 use Rattle.rules.specs.Changing.{Idle, Changeless}
 use Rattle.rules.proofs.Serving.{serving-unfit, serving-acts, opening-unfit, opening-unusable, opening-served}
 
@@ -33,18 +33,18 @@ outcome-refused G m (told value offset bytes) h = absurd (h refl)
 outcome-refused G m (shown v) h = absurd (h refl)
 
 -- a request of any bytes, on metadata of any bytes and length
-pub call-refused : (n : ℕ) (m request : List ℕ) (beside : Lent) → Changeless m (call n m request beside)
-call-refused n m request beside = go (admit n m) refl
+pub serve-refused : (n : ℕ) (m request : List ℕ) (beside : Lent) → Changeless m (serve n m request beside)
+serve-refused n m request beside = go (admit n m) refl
   where
-    go : (j : Judged) → admit n m ≡ j → Changeless m (call n m request beside)
+    go : (j : Judged) → admit n m ≡ j → Changeless m (serve n m request beside)
     go (Unfit r) e = rw (serving-unfit n m beside (parse request) e) (λ h. unserved-idle m r)
     go (Laid G) e = rw (serving-acts n m beside (parse request) e) (outcome-refused G m (act G m beside (parse request)))
 
 -- an opening
 pub opening-refused : (n : ℕ) (m : List ℕ) (s : Setup) → Changeless m (opening n m s)
-opening-refused n m s = go (judge n (length m)) (isUnusable (s .seeds)) refl refl
+opening-refused n m s = go (lengths n (length m)) (isUnusable (s .seeds)) refl refl
   where
-    go : (j : Judged) (t : Bool) → judge n (length m) ≡ j → isUnusable (s .seeds) ≡ t → Changeless m (opening n m s)
+    go : (j : Judged) (t : Bool) → lengths n (length m) ≡ j → isUnusable (s .seeds) ≡ t → Changeless m (opening n m s)
     go (Unfit r) t e f = rw (opening-unfit n m s e) (λ h. unserved-idle m r)
     go (Laid G) true e f = rw (opening-unusable n m s e f) (λ h. unserved-idle m UnusableSeed)
     go (Laid G) false e f = rw (opening-served n m s e f) (λ h. absurd (h refl))

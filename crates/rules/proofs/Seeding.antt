@@ -15,7 +15,7 @@ use Rattle.answer.specs.Reply.{Reply, refusedBy}
 use Rattle.answer.proofs.Numbers.{refusal-number}
 use Rattle.rules.specs.declared.Judged.{Judged}
 use Rattle.rules.specs.declared.Judged.the-variants.{Laid, Unfit}
-use Rattle.rules.specs.Judge.{judge}
+use Rattle.rules.specs.Judge.{lengths}
 use Rattle.rules.specs.Open.{Setup}
 use Rattle.rules.specs.Call.{opening}
 use Rattle.rules.proofs.Serving.{opening-unfit, opening-unusable, opening-served}
@@ -25,7 +25,7 @@ module _ (n : ℕ) (m : List ℕ) (s : Setup) (small-z : s .seeds .z < 2 ^ 32) (
   frozen = unusable-freezes (s .seeds) small-z small-w
 
   -- where the lengths are right
-  pub seeds-refused : {G : Layout} → judge n (length m) ≡ Laid G
+  pub seeds-refused : {G : Layout} → lengths n (length m) ≡ Laid G
       → (opening n m s .answer ≡ refusedBy UnusableSeed) ↔ EitherFreezes (s .seeds)
   seeds-refused laid =
       (λ e. frozen .0 (go (isUnusable (s .seeds)) refl e), λ f. rw (opening-unusable n m s laid (frozen .1 f)) refl)
@@ -39,8 +39,8 @@ module _ (n : ℕ) (m : List ℕ) (s : Setup) (small-z : s .seeds .z < 2 ^ 32) (
 
   -- and so what was opened never freezes
   pub opened-never : opening n m s .answer .number ≡ 0 → EitherFreezes (s .seeds) → ⊥
-  opened-never e f = go (judge n (length m)) refl
+  opened-never e f = go (lengths n (length m)) refl
     where
-      go : (j : Judged) → judge n (length m) ≡ j → ⊥
+      go : (j : Judged) → lengths n (length m) ≡ j → ⊥
       go (Unfit r) q = refusal-number r (rw (opening-unfit n m s q) at e)
       go (Laid G) q = refusal-number UnusableSeed (rw (opening-unusable n m s q (frozen .1 f)) at e)

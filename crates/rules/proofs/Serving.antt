@@ -21,7 +21,7 @@ use Rattle.mwc.specs.Draw.{isUnusable}
 use Rattle.rules.specs.declared.Judged.{Judged}
 use Rattle.rules.specs.declared.Judged.the-variants.{Laid, Unfit}
 use Rattle.rules.specs.Metadata.{countOf}
-use Rattle.rules.specs.Judge.{judge, Fits, isOver, anyOver, admit}
+use Rattle.rules.specs.Judge.{lengths, Fits, isOver, anyOver, admit}
 use Rattle.rules.specs.Open.{Setup, fresh}
 use Rattle.rules.specs.Serve.{Lent, act}
 use Rattle.rules.specs.Call.{Call, calledBy, unserved, serving, openedBy, opening}
@@ -34,27 +34,27 @@ laid-same e = cc
 
 module _ (n k : ℕ) where
   -- no heap has this length
-  pub no-heap : regionOf n ≡ 0 → judge n k ≡ Unfit HeapLength
-  unfolding judge
+  pub no-heap : regionOf n ≡ 0 → lengths n k ≡ Unfit HeapLength
+  unfolding lengths
   no-heap e = rw (eq-eqb (regionOf n) 0 e)
 
   module _ (some : regionOf n ≡ 0 → ⊥) where
     -- the metadata is not as long as the heap's
-    pub other-length : (k ≡ metadataLength (layoutOf n) → ⊥) → judge n k ≡ Unfit MetadataLength
-    unfolding judge
+    pub other-length : (k ≡ metadataLength (layoutOf n) → ⊥) → lengths n k ≡ Unfit MetadataLength
+    unfolding lengths
     other-length e = rw (ne-eqb (regionOf n) 0 some, ne-eqb k (metadataLength (layoutOf n)) e)
 
     -- the lengths are right
-    pub right-lengths : k ≡ metadataLength (layoutOf n) → judge n k ≡ Laid (layoutOf n)
-    unfolding judge
+    pub right-lengths : k ≡ metadataLength (layoutOf n) → lengths n k ≡ Laid (layoutOf n)
+    unfolding lengths
     right-lengths e = rw (ne-eqb (regionOf n) 0 some, eq-eqb k (metadataLength (layoutOf n)) e)
 
     pub fits : k ≡ metadataLength (layoutOf n) → Fits (layoutOf n) n k
     fits e = record { small = laid n .small; heap = laid n .whole some; metadata = e }
 
   -- a layout that was found is the heap's, and all fits it
-  pub laid-fits : {G : Layout} → judge n k ≡ Laid G → (G ≡ layoutOf n) × Fits G n k
-  unfolding judge
+  pub laid-fits : {G : Layout} → lengths n k ≡ Laid G → (G ≡ layoutOf n) × Fits G n k
+  unfolding lengths
   laid-fits {G} e = go (eqb (regionOf n) 0) (eqb k (metadataLength (layoutOf n))) refl refl
     where
       go : (s t : Bool) → eqb (regionOf n) 0 ≡ s → eqb k (metadataLength (layoutOf n)) ≡ t → (G ≡ layoutOf n) × Fits G n k
@@ -78,11 +78,11 @@ none-over G m few = le-ltb c classes (elim (decLt c classes) [
 
 -- what each way through an admission comes to
 module _ (n : ℕ) (m : List ℕ) where
-  pub admit-unfit : {r : Refusal} → judge n (length m) ≡ Unfit r → admit n m ≡ Unfit r
+  pub admit-unfit : {r : Refusal} → lengths n (length m) ≡ Unfit r → admit n m ≡ Unfit r
   unfolding admit
   admit-unfit e = rw e
 
-  module _ {G : Layout} (laid : judge n (length m) ≡ Laid G) where
+  module _ {G : Layout} (laid : lengths n (length m) ≡ Laid G) where
     pub admit-over : anyOver G m ≡ true → admit n m ≡ Unfit CorruptMetadata
     unfolding admit
     admit-over e = rw (laid, e)
@@ -92,14 +92,14 @@ module _ (n : ℕ) (m : List ℕ) where
     admit-laid e = rw (laid, e)
 
   -- the layout that a request goes by is that of the lengths
-  pub admitted-laid : {G : Layout} → admit n m ≡ Laid G → judge n (length m) ≡ Laid G
-  admitted-laid {G} e = go (judge n (length m)) refl
+  pub admitted-laid : {G : Layout} → admit n m ≡ Laid G → lengths n (length m) ≡ Laid G
+  admitted-laid {G} e = go (lengths n (length m)) refl
     where
-      go : (j : Judged) → judge n (length m) ≡ j → judge n (length m) ≡ Laid G
+      go : (j : Judged) → lengths n (length m) ≡ j → lengths n (length m) ≡ Laid G
       go (Unfit r) f = absurd (unfit-laid (sym (admit-unfit f) ∙ e))
       go (Laid F) f = counted (anyOver F m) refl
         where
-          counted : (t : Bool) → anyOver F m ≡ t → judge n (length m) ≡ Laid G
+          counted : (t : Bool) → anyOver F m ≡ t → lengths n (length m) ≡ Laid G
           counted true o = absurd (unfit-laid (sym (admit-over f o) ∙ e))
           counted false o = f ∙ sym (admit-laid f o) ∙ e
 
@@ -121,11 +121,11 @@ module _ (n : ℕ) (m : List ℕ) (beside : Lent) (asked : Parsed) where
 -- what each way through an opening comes to
 module _ (n : ℕ) (m : List ℕ) (s : Setup) where
   -- a length is not allowed
-  pub opening-unfit : {r : Refusal} → judge n (length m) ≡ Unfit r → opening n m s ≡ unserved m r
+  pub opening-unfit : {r : Refusal} → lengths n (length m) ≡ Unfit r → opening n m s ≡ unserved m r
   unfolding opening
   opening-unfit e = rw e
 
-  module _ {G : Layout} (laid : judge n (length m) ≡ Laid G) where
+  module _ {G : Layout} (laid : lengths n (length m) ≡ Laid G) where
     -- the seeds are not
     pub opening-unusable : isUnusable (s .seeds) ≡ true → opening n m s ≡ unserved m UnusableSeed
     unfolding opening
@@ -148,7 +148,7 @@ module _ (n : ℕ) (m : List ℕ) (s : Setup) where
       | no p ↦ absurd (refusal-number MetadataLength (rw (opening-unfit (other-length n (length m) has-layout p)) at e))
     ]
       where
-        seeded : (t : Bool) → isUnusable (s .seeds) ≡ t → judge n (length m) ≡ Laid (layoutOf n) → opening n m s ≡ openedBy (layoutOf n) s
+        seeded : (t : Bool) → isUnusable (s .seeds) ≡ t → lengths n (length m) ≡ Laid (layoutOf n) → opening n m s ≡ openedBy (layoutOf n) s
         seeded true q laid = absurd (refusal-number UnusableSeed (rw (opening-unusable laid q) at e))
         seeded false q laid = opening-served laid q
 

@@ -1,13 +1,13 @@
 -- What a read shows lies in the heap or in the page, and its value is how many bytes that is; with plain arguments it is what the request of
 -- its bytes comes to.
-use Prim.Native.Nat.{ℕ, _+_, _^_, _<_, _≤_, min, zero-le}
-use mathlib.Core.Path.{_≡_, refl, ap}
+use Prim.Native.Nat.{ℕ, _^_, _<_, zero-le}
+use mathlib.Core.Path.{_≡_, refl}
 use mathlib.Core.Bool.{Bool, true, false, or-true}
 use mathlib.Core.List.{List, []}
 use native.Mathlib.Omega.{arith}
 use borrow.Author.Tests.{leb-false}
 use lib.Dec.{leb, eqb}
-use lib.ListN.{length, take, length-take, length-drop}
+use lib.ListN.{length}
 use Rattle.geometry.specs.declared.Layout.{Layout}
 use Rattle.answer.specs.declared.Refusal.{Refusal}
 use Rattle.geometry.specs.Layout.{heapLength}
@@ -15,48 +15,20 @@ use Rattle.request.specs.declared.Request.the-variants.{Read}
 use Rattle.request.specs.declared.Parsed.the-variants.{Whole}
 use Rattle.request.specs.Parse.{requestBytes}
 use Rattle.request.proofs.Parsing.{encoded}
-use Rattle.rules.specs.declared.Place.{Place}
-use Rattle.rules.specs.declared.Place.the-variants.{Heap, Page}
-use Rattle.rules.specs.declared.View.{View}
+use Rattle.view.specs.declared.View.{View}
 use Rattle.rules.specs.declared.Judged.{Judged}
 use Rattle.rules.specs.declared.Judged.the-variants.{Laid, Unfit}
-use Rattle.rules.specs.View.{bytesFrom, viewBytes, placeWithin, EndsWithin, Lies}
+use Rattle.view.specs.View.{Lies}
+use Rattle.view.proofs.Lying.{room-lies}
 use Rattle.rules.specs.Judge.{admit}
 use Rattle.rules.specs.Outcome.{Outcome, shown, reply, viewOf}
 use Rattle.rules.specs.Object.{space}
-use Rattle.rules.specs.Read.{viewIn, read}
+use Rattle.rules.specs.Read.{read}
 use Rattle.rules.specs.Serve.{lentWith}
-use Rattle.rules.specs.Call.{Call, calledBy, unserved, serving, call, reading}
+use Rattle.rules.specs.Call.{Call, calledBy, unserved, serving, serve, reading}
 use Rattle.rules.proofs.Space.{space-within}
-use Rattle.rules.proofs.Results.{Comes, refuses, serves, read-comes}
+use Rattle.rules.proofs.Outcomes.{Comes, refuses, serves, read-comes}
 use Rattle.rules.proofs.Serving.{admit-fits, serving-unfit, serving-acts}
-
--- what lies in them is as long as the view says
-from-length : (heap page : List ℕ) (n : ℕ) (p : Place) → EndsWithin (length heap) (length page) n p
-    → length (take n (bytesFrom p heap page)) ≡ n
-from-length heap page n (Heap offset) h = simp (length-take, length-drop) (omega arith)
-from-length heap page n Page h = simp length-take (omega arith)
-
-pub view-length : (heap page : List ℕ) (v : View) → Lies (length heap) (length page) v → length (viewBytes v heap page) ≡ v .len
-view-length heap page v h = from-length heap page (v .len) (v .place) h
-
--- and it starts where its place says, not at the heap's end
-from-within : (heapBytes pageBytes n : ℕ) (p : Place) → EndsWithin heapBytes pageBytes n p → placeWithin heapBytes p ≡ p
-from-within heapBytes pageBytes n (Heap offset) h =
-    let start : min offset heapBytes ≡ offset = omega arith in
-    ap Heap start
-from-within heapBytes pageBytes n Page h = refl
-
-pub view-within : (heapBytes pageBytes : ℕ) (v : View) → Lies heapBytes pageBytes v → placeWithin heapBytes (v .place) ≡ v .place
-view-within heapBytes pageBytes v h = from-within heapBytes pageBytes (v .len) (v .place) h
-
--- those in a room that ends within the heap
-room-lies : (n offset room count pageBytes : ℕ) → offset + room ≤ n → Lies n pageBytes (viewIn offset room count pageBytes)
-room-lies n offset room count pageBytes h = go (eqb room 0) refl
-  where
-    go : (t : Bool) → eqb room 0 ≡ t → Lies n pageBytes (viewIn offset room count pageBytes)
-    go true e = rw e (omega arith)
-    go false e = rw e (omega arith)
 
 module _ (G : Layout) (m : List ℕ) (offset count pageBytes : ℕ) where
   read-lies : Lies (heapLength G) pageBytes (viewOf (read G m offset count pageBytes))
@@ -95,6 +67,6 @@ module _ (n : ℕ) (m : List ℕ) (offset count : ℕ) (page : List ℕ) where
 
   -- the bytes of a read ask for it, whatever source is lent
   pub read-request : (source : List ℕ) → offset < 2 ^ 32 → count < 2 ^ 32
-      → call n m (requestBytes 6 offset count) (lentWith source page) ≡ reading n m offset count page
+      → serve n m (requestBytes 6 offset count) (lentWith source page) ≡ reading n m offset count page
   unfolding serving
   read-request source h k = rw (encoded 6 offset count (omega arith) h k (or-true (eqb count 0)))

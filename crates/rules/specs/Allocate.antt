@@ -1,32 +1,17 @@
 -- Allocating (the paper's placing): a random slot of the smallest class that holds the size.
-use Prim.Native.Nat.{ℕ, zero, suc, _/_, _%_}
+use Prim.Native.Nat.{ℕ, _/_}
 use mathlib.Core.List.{List, [], _∷_}
-use mathlib.Core.Bool.{true, false}
 use lib.Dec.{leb, ltb, eqb}
-use Rattle.mwc.specs.declared.Generator.{Generator}
-use Rattle.mwc.specs.Draw.{next, drawn}
 use Rattle.geometry.specs.declared.Layout.{Layout}
 use Rattle.geometry.specs.Layout.{classes, classOf, slots}
-use Rattle.bitmap.specs.Bitmap.{isSet, nextClear}
 use Rattle.answer.specs.declared.Refusal.the-variants.{UnsupportedSize, ClassTooSmall, ClassAtCapacity, CorruptMetadata}
 use Rattle.answer.specs.Checks.{_when_, checked}
-use Rattle.rules.specs.declared.Found.{Found}
+use Rattle.probe.specs.declared.Found.{Found}
+use Rattle.probe.specs.Probe.{probe, draws}
 use Rattle.rules.specs.Metadata.{generatorOf, countOf, bitmapOf}
 use Rattle.rules.specs.Outcome.{Outcome, refused, allocated}
 
--- up to k draws, of which the first that meets a clear slot takes it; then the next clear slot above the last one
--- tested
-unfoldable pub probe : List ℕ → ℕ → Generator → ℕ → ℕ → Found
-probe b n g last zero = record { slot = nextClear b n last; generator = g }
-probe b n g last (suc k) =
-    let i : ℕ = drawn (next g) % n in
-    elim (isSet b n i) [ true ↦ probe b n (next g) i k | false ↦ record { slot = i; generator = next g } ]
-
--- no more draws than this
-abbrev pub draws : ℕ
-draws = 32
-
--- what they find in a class, and the slot taken
+-- what the draws find in a class, and the slot taken
 abbrev pub foundIn : Layout → List ℕ → ℕ → Found
 foundIn G m c = probe (bitmapOf G c m) (slots G c) (generatorOf m) 0 draws
 

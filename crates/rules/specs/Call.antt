@@ -13,11 +13,11 @@ use Rattle.answer.specs.declared.Refusal.{Refusal}
 use Rattle.answer.specs.declared.Refusal.the-variants.{UnusableSeed}
 use Rattle.answer.specs.Reply.{Reply, served, refusedBy}
 use Rattle.answer.specs.Checks.{_when_, checked}
-use Rattle.rules.specs.declared.View.{View}
-use Rattle.rules.specs.Judge.{judge, onceLaid, admit}
+use Rattle.view.specs.declared.View.{View}
+use Rattle.rules.specs.Judge.{lengths, onceLaid, admit}
 use Rattle.rules.specs.Open.{Setup, fresh}
 use Rattle.rules.specs.Canary.{filledHeap}
-use Rattle.rules.specs.View.{noView}
+use Rattle.view.specs.View.{noView}
 use Rattle.rules.specs.Outcome.{Outcome, reply, metadataAfter, heapAfter, viewOf}
 use Rattle.rules.specs.Serve.{Lent, lentWith, act}
 
@@ -43,8 +43,8 @@ serving heapBytes m beside asked =
     onceLaid (unserved m) (λ G. calledBy G m (act G m beside asked)) (admit heapBytes m)
 
 -- a request of any bytes, which is read whole before it is carried out
-abbrev pub call : ℕ → List ℕ → List ℕ → Lent → Call
-call heapBytes m request beside = serving heapBytes m beside (parse request)
+abbrev pub serve : ℕ → List ℕ → List ℕ → Lent → Call
+serve heapBytes m request beside = serving heapBytes m beside (parse request)
 
 -- a read with plain arguments
 abbrev pub reading : ℕ → List ℕ → ℕ → ℕ → List ℕ → Call
@@ -58,7 +58,7 @@ unfoldable pub opening : ℕ → List ℕ → Setup → Call
 opening heapBytes m s =
     onceLaid (unserved m)
     (λ G. checked (unserved m) (UnusableSeed when isUnusable (s .seeds) ∷ []) (openedBy G s))
-    (judge heapBytes (length m))
+    (lengths heapBytes (length m))
 
 -- ---- one request after another
 
@@ -71,8 +71,8 @@ abbrev pub stateOf : List ℕ → List ℕ → State
 stateOf heap metadata = record { heap = heap; metadata = metadata }
 
 -- a request's call there, and what it leaves
-abbrev pub callOn : State → List ℕ → Lent → Call
-callOn s request beside = call (length (s .heap)) (s .metadata) request beside
+abbrev pub serveOn : State → List ℕ → Lent → Call
+serveOn s request beside = serve (length (s .heap)) (s .metadata) request beside
 
 abbrev pub stateAfter : State → List ℕ → Lent → State
-stateAfter s request beside = stateOf (callOn s request beside .heap (s .heap)) (callOn s request beside .metadata)
+stateAfter s request beside = stateOf (serveOn s request beside .heap (s .heap)) (serveOn s request beside .metadata)

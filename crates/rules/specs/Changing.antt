@@ -8,7 +8,7 @@ use Rattle.geometry.specs.Layout.{slots, locate}
 use Rattle.request.specs.declared.Request.the-variants.{Allocate, Free, Remaining, Copy, Read}
 use Rattle.request.specs.declared.Parsed.{Parsed}
 use Rattle.request.specs.declared.Parsed.the-variants.{Whole, Malformed}
-use Rattle.rules.specs.View.{noView}
+use Rattle.view.specs.View.{noView}
 use Rattle.rules.specs.Object.{space}
 use Rattle.rules.specs.Call.{Call}
 

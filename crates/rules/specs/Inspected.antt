@@ -3,7 +3,7 @@ use Prim.Native.Nat.{ℕ, _+_, _<_}
 use mathlib.Core.Path.{_≡_}
 use mathlib.Core.Logic.{_↔_}
 use mathlib.Core.Bool.{false}
-use mathlib.Core.List.{List, [], _∷_, List·Memᴰ, Pairwise}
+use mathlib.Core.List.{List, List·Memᴰ, Pairwise}
 use lib.ListN.{take, drop, getD}
 use Rattle.geometry.specs.declared.Layout.{Layout}
 use Rattle.geometry.specs.Layout.{slotSize, slots, slotStart, locate}
@@ -11,9 +11,6 @@ use Rattle.bitmap.specs.Bitmap.{bit}
 use Rattle.rules.specs.Metadata.{canaryOf, bitmapOf}
 use Rattle.rules.specs.Canary.{canaryByte}
 use Rattle.rules.specs.Object.{isLive}
-use Rattle.rules.specs.Serve.{Lent}
-use Rattle.rules.specs.Call.{State, stateAfter}
-use Rattle.rules.specs.Run.{Entry}
 use Rattle.rules.specs.Inspect.{Inspection}
 
 -- ---- what is listed
@@ -54,16 +51,3 @@ abbrev pub ClearBytesAlike : Layout → List ℕ → List ℕ → List ℕ → T
 ClearBytesAlike G m h h′ =
     (x : ℕ) → let l = locate G x in
     l .slot < slots G (l .class) → isLive G m l ≡ false → getD h x 0 ≡ getD h′ x 0
-
--- ---- where nobody but requests writes
-
--- a heap and its metadata after requests, each with what is lent beside it
-unfoldable pub undisturbed : State → List (List ℕ × Lent) → State
-undisturbed s [] = s
-undisturbed s ((request, beside) ∷ rest) = undisturbed (stateAfter s request beside) rest
-
--- those requests as a run: each is lent the heap that the one before left
-unfoldable pub runOf : State → List (List ℕ × Lent) → List Entry
-runOf s [] = []
-runOf s ((request, beside) ∷ rest) =
-    record { request = request; lent = beside; heap = s .heap } ∷ runOf (stateAfter s request beside) rest

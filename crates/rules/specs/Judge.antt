@@ -18,8 +18,8 @@ use Rattle.rules.specs.Metadata.{countOf}
 -- ---- the lengths
 
 -- the layout, or the refusal
-unfoldable pub judge : ℕ → ℕ → Judged
-judge heapBytes metadataBytes =
+unfoldable pub lengths : ℕ → ℕ → Judged
+lengths heapBytes metadataBytes =
     let G : Layout = layoutOf heapBytes in
     checked Unfit
     (HeapLength when eqb (G .region) 0
@@ -51,4 +51,4 @@ anyOver G m = ltb (first (isOver G m) 0 classes) classes
 -- what a request goes by: the layout, or the refusal for a length or a count
 unfoldable pub admit : ℕ → List ℕ → Judged
 admit heapBytes m =
-    onceLaid Unfit (λ G. checked Unfit (CorruptMetadata when anyOver G m ∷ []) (Laid G)) (judge heapBytes (length m))
+    onceLaid Unfit (λ G. checked Unfit (CorruptMetadata when anyOver G m ∷ []) (Laid G)) (lengths heapBytes (length m))

@@ -9,10 +9,10 @@ use Rattle.bitmap.specs.Bitmap.{setSlot, clearSlot}
 use Rattle.answer.specs.declared.Refusal.{Refusal}
 use Rattle.answer.specs.Reply.{Reply, served, refusedBy}
 use Rattle.writing.specs.Overwrite.{overwrite}
-use Rattle.rules.specs.declared.View.{View}
+use Rattle.view.specs.declared.View.{View}
 use Rattle.rules.specs.Metadata.{withGenerator, countOf, withCount, canaryOf, bitmapOf}
 use Rattle.rules.specs.Canary.{filled}
-use Rattle.rules.specs.View.{noView}
+use Rattle.view.specs.View.{noView}
 
 pub data Outcome : Type 0 where
   refused : Refusal → Outcome

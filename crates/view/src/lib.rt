@@ -1,17 +1,26 @@
 // What a read shows, and these bytes where they lie: nothing is copied.
 use numbers::least;
 use numbers::wide;
-use rules::Place;
-use rules::View;
 use slices::between;
 ghost use mathlib.Core.Path.{_≡_};
 ghost use lib.ListN.{length};
-ghost use Rattle.rules.specs.View.{viewBytes, addressOf, placeWithin};
-ghost use Rattle.rules.specs.Read.{viewIn};
+ghost use Rattle.view.specs.View.{viewBytes, addressOf, placeWithin, within};
+
+// Where bytes are shown from: an offset of the heap, or the front of the fallback page, which is lent beside it.
+pub enum Place {
+    Heap(u32),
+    Page,
+}
+
+// Bytes that are shown to the caller where they lie.
+pub struct View {
+    pub place: Place,
+    pub len: u32,
+}
 
 // At an offset with so much room to the end of its live object, and with a page of this length.
 pub fn within(offset: u32, room: usize, count: u32, page_len: usize) -> View
-    ensures { λ r. ⌜ r ≡ viewIn offset room count «page_len» ⌝ }
+    ensures { λ r. ⌜ r ≡ within offset room count «page_len» ⌝ }
 {
     if room == 0 {
         return View {

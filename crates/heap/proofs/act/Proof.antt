@@ -4,8 +4,8 @@ use mathlib.Core.Path.{refl}
 use Rattle.heap.proofs.act.Statement.{statement}
 use Rattle.heap.proofs.act.Tie as tie
 
-read-requires : tie.Need-read-requires
-read-requires c κs = search needs
+parse-requires : tie.Need-parse-requires
+parse-requires c κs = search needs
 
 enum-known-whole : tie.Need-enum-known-whole
 enum-known-whole c = search needs
@@ -14,7 +14,7 @@ enum-told : tie.Need-enum-told
 enum-told c = search needs
 
 returns : tie.Need-returns
-returns c = rw (← c .before .before .read .ensures, c .enum-told .given .1) (refl, refl, refl)
+returns c = rw (← c .before .before .parse .ensures, c .enum-told .given .1) (refl, refl, refl)
 
 perform-requires : tie.Need-perform-requires
 perform-requires c κs = search needs
@@ -28,13 +28,13 @@ same-length-2 c = search needs
 returns-2 : tie.Need-returns-2
 returns-2 c =
     let whole = c .before .before .before .before .before .before .before .before in
-    rw (← whole .before .before .read .ensures, whole .whole .given .1) (c .before .before .before .before .perform .ensures)
+    rw (← whole .before .before .parse .ensures, whole .whole .given .1) (c .before .before .before .before .perform .ensures)
 
 pub act-spec : {M : Type 1} → statement M
 act-spec =
     tie.close
     (tie.spec
-    read-requires
+    parse-requires
     enum-known-whole
     enum-told
     returns

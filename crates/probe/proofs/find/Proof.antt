@@ -3,7 +3,7 @@ use mathlib.Core.Path.{_≡_, refl, sym, _∙_}
 use native.Mathlib.Omega.{arith}
 use borrow.Author.Needs.{needs}
 use borrow.Author.Tests.{not-true, not-false}
-use Rattle.rules.specs.Allocate.{probe}
+use Rattle.probe.specs.Probe.{probe}
 use Rattle.probe.proofs.Probe.{probe-hit, probe-miss, probe-walk}
 use Rattle.probe.proofs.find.Statement.{statement}
 use Rattle.probe.proofs.find.Tie as tie
