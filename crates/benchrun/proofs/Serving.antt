@@ -14,7 +14,7 @@ use Rattle.rules.specs.Call.{State, stateAfter}
 use Rattle.replay.specs.Batch.{replay, requests, batchOf}
 use Rattle.replay.specs.Pieces.{ready, rest, replayAll}
 use Rattle.replay.proofs.Cutting.{batch-all}
-use Rattle.benchrun.specs.Replay.{inputRoom, requestsRoom, Room}
+use Rattle.benchrun.specs.Replay.{inputRoom, mostRequests, Room}
 
 -- k requests have k numbers
 replay-next : (k : ℕ) (s : State) (number : ℕ) (input : List ℕ) → replay [] k s number input .next ≡ number + k
@@ -25,7 +25,7 @@ replay-next (suc k) s number input =
     replay-next k (stateAfter s request (lent [])) (number + 1) (drop requestSize input) ∙ omega arith
 
 module _ {input out : List ℕ} {end number : ℕ} (room : Room input out end number) (ended : Bool) where
-  few-ready : requests (ready ended (take end input)) ≤ requestsRoom
+  few-ready : requests (ready ended (take end input)) ≤ mostRequests
   few-ready =
       let some : length (take end input) ≤ inputRoom = rw length-take (omega arith) in
       let less : length (ready ended (take end input)) ≤ inputRoom = rw length-take (omega arith) in
@@ -37,7 +37,7 @@ module _ {input out : List ℕ} {end number : ℕ} (room : Room input out end nu
       let few = few-ready in
       batch-all (length out) number s (ready ended (take end input)) (omega arith) (omega arith)
 
-  pub next-within : (s : State) → replayAll s number (ready ended (take end input)) .next ≤ number + requestsRoom
+  pub next-within : (s : State) → replayAll s number (ready ended (take end input)) .next ≤ number + mostRequests
   next-within s = rw replay-next (omega (arith, few-ready))
 
   pub rest-kept : {front : List ℕ} → front ≡ overwrite (take end input) 0 (rest ended (take end input))

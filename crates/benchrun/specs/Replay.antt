@@ -31,13 +31,13 @@ firstNumber = 1
 abbrev pub inputRoom : ℕ
 inputRoom = 16384
 
-abbrev pub requestsRoom : ℕ
-requestsRoom = inputRoom / requestSize
+abbrev pub mostRequests : ℕ
+mostRequests = inputRoom / requestSize
 
 -- what serving may rely on: `end` bytes of an input are there, and there is room for their lines and for the numbers of
 -- these
 pub record Room (input out : List ℕ) (end number : ℕ) : Type 0 where
   pub held : end ≤ length input
   pub few : length input ≤ inputRoom
-  pub lines : requestsRoom * lineRoom ≤ length out
-  pub numbers : number + requestsRoom < 2 ^ 64
+  pub lines : mostRequests * lineRoom ≤ length out
+  pub numbers : number + mostRequests < 2 ^ 64

@@ -18,7 +18,7 @@ ghost use Rattle.rules.specs.Call.{stateOf};
 ghost use Rattle.replay.specs.Batch.{Batch};
 ghost use Rattle.replay.specs.Opened.{openedState};
 ghost use Rattle.replay.specs.Pieces.{ready, rest, replayAll};
-ghost use Rattle.benchrun.specs.Replay.{heapBytes, metadataBytes, given, firstNumber, requestsRoom, Room};
+ghost use Rattle.benchrun.specs.Replay.{heapBytes, metadataBytes, given, firstNumber, mostRequests, Room};
 
 // The bytes of the heap and of its metadata.
 const HEAP: usize = 49152;
@@ -83,7 +83,7 @@ fn serve(
         × (now (input .exit) ≡ overwrite (now (input .entry)) 0 (rest ended bytes))
         × (stateOf (now (heap .exit)) (now (metadata .exit)) ≡ b .state) ⌝ }
     ensures { λ r. ⌜ (r .written ≤ length (now (out .exit))) × (r .kept < requestSize) ⌝ }
-    ensures { λ r. ⌜ r .next ≤ number + requestsRoom ⌝ }
+    ensures { λ r. ⌜ r .next ≤ number + mostRequests ⌝ }
 {
     let end = kept + got.count;
     let ended = got.ended();

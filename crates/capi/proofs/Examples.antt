@@ -9,18 +9,18 @@ use Rattle.rules.specs.Judge.{lengths, admit}
 use Rattle.rules.specs.Object.{space}
 use Rattle.rules.specs.Read.{read}
 use Rattle.rules.specs.Call.{serving, reading}
-use Rattle.capi.specs.Numbers.{partOf, metadataBytes}
+use Rattle.capi.specs.Numbers.{readPart, metadataFor}
 use Rattle.capi.specs.declared.PohelduPart.{PohelduPart}
 
 -- ---- the metadata's length
 
 -- of regions of 1,024, 4,096 and 1,048,576 bytes
-metadata-lengths : map metadataBytes (12_288 ∷ 49_152 ∷ 12_582_912 ∷ []) ≡ 94 ∷ 190 ∷ 32_820 ∷ []
+metadata-lengths : map metadataFor (12_288 ∷ 49_152 ∷ 12_582_912 ∷ []) ≡ 94 ∷ 190 ∷ 32_820 ∷ []
 unfolding first slotSize bitmapAt
 metadata-lengths = refl
 
 -- no heap: no bytes; a byte less and more than the shortest, and 2^32 more; regions of 512, 1,536 and 2,097,152 bytes
-no-heaps : map metadataBytes (0 ∷ 12_287 ∷ 12_289 ∷ 4_294_979_584 ∷ 6_144 ∷ 18_432 ∷ 25_165_824 ∷ []) ≡ replicate 7 0
+no-heaps : map metadataFor (0 ∷ 12_287 ∷ 12_289 ∷ 4_294_979_584 ∷ 6_144 ∷ 18_432 ∷ 25_165_824 ∷ []) ≡ replicate 7 0
 unfolding first slotSize bitmapAt
 no-heaps = refl
 
@@ -32,7 +32,7 @@ twoLive = set (set (replicate 94 0) 60 0x01) 93 0x01
 
 -- a read of four bytes, with a page of three
 unfoldable readFour : List ℕ → ℕ → PohelduPart
-readFour m offset = partOf (reading 12_288 m offset 4 (0x70 ∷ 0x71 ∷ 0x72 ∷ []))
+readFour m offset = readPart (reading 12_288 m offset 4 (0x70 ∷ 0x71 ∷ 0x72 ∷ []))
 
 abbrev part : ℕ → ℕ → ℕ → ℕ → PohelduPart
 part number value ofPage start =

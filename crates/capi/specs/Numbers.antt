@@ -23,23 +23,23 @@ abbrev pub ofPage : Place → ℕ
 ofPage (Heap offset) = 0
 ofPage Page = 1
 
-abbrev pub startOf : Place → ℕ
-startOf (Heap offset) = offset
-startOf Page = 0
+abbrev pub placeStart : Place → ℕ
+placeStart (Heap offset) = offset
+placeStart Page = 0
 
 -- a read's answer, and where the bytes lie that it shows
-abbrev pub partOf : Call → PohelduPart
-partOf c =
+abbrev pub readPart : Call → PohelduPart
+readPart c =
     record {
       number = c .answer .number;
       value = c .answer .value;
       «of_page» = ofPage (c .view .place);
-      start = startOf (c .view .place);
+      start = placeStart (c .view .place);
     }
 
 -- the metadata's length for a heap's length; 0 where no heap has it
-abbrev pub metadataBytes : ℕ → ℕ
-metadataBytes n = cond (eqb (regionOf n) 0) 0 (metadataLength (layoutOf n))
+abbrev pub metadataFor : ℕ → ℕ
+metadataFor n = cond (eqb (regionOf n) 0) 0 (metadataLength (layoutOf n))
 
 -- the number of the interface that an object must be compiled against
 abbrev pub interface : ℕ

@@ -10,7 +10,7 @@ ghost use Rattle.rules.specs.Serve.{lentWith};
 ghost use Rattle.rules.specs.Call.{serve, reading, opening};
 ghost use Rattle.rules.specs.Inspect.{inspection};
 ghost use Rattle.vote.specs.Decide.{decide, tally, outputAfter, NamesWinner};
-ghost use Rattle.capi.specs.Numbers.{replyIn, tallyIn, partOf, metadataBytes, interface};
+ghost use Rattle.capi.specs.Numbers.{replyIn, tallyIn, readPart, metadataFor, interface};
 ghost use Rattle.capi.specs.Slots.{nthSlot, findSlot, countSlots, storedPattern};
 use answer::Answer;
 use geometry::CANARY;
@@ -103,7 +103,7 @@ pub extern "C" fn poheldu_read(
 ) -> PohelduPart
     ensures { λ r.
         let called = reading (length (now (heap .entry))) (now (metadata .entry)) offset count (now (page .entry)) in
-        ⌜ r ≡ partOf called ⌝ }
+        ⌜ r ≡ readPart called ⌝ }
 {
     let looked = heap::look(heap, metadata, offset, count, page);
     let answer = looked.answer();
@@ -170,7 +170,7 @@ pub extern "C" fn poheldu_vote(
 // 0 where no heap has this length.
 #[no_mangle]
 pub extern "C" fn poheldu_metadata_length(heap_len: usize) -> usize
-    ensures { λ r. ⌜ r ≡ metadataBytes «heap_len» ⌝ }
+    ensures { λ r. ⌜ r ≡ metadataFor «heap_len» ⌝ }
 {
     let plan = Plan::of(heap_len);
     if plan.layout.region == 0 {

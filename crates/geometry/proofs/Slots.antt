@@ -111,12 +111,13 @@ module _ (G : Layout) (c x : ℕ) where
       let inside : x % G .region < slots G c * s = div-lt-iff-lt-mul {k = s} some .0 at in
       omega (arith, rest, div-add-mod' x (G .region))
 
--- where a slot starts, an offset lies no way into it
-pub slot-start-into : (G : Layout) (c i : ℕ) → i < slots G c → locate G (slotStart G c i) .into ≡ 0
-slot-start-into G c i h =
+-- where a slot starts, it is located, and an offset lies no way into it
+pub start-located : (G : Layout) (c i : ℕ) → i < slots G c → let l = locate G (slotStart G c i) in
+    (l .class ≡ c) × (l .slot ≡ i) × (l .into ≡ 0)
+start-located G c i h =
     let x : ℕ = slotStart G c i in
     let (class, slot) = slot-located G c i x h (le-refl x) (omega (arith, slot-size-pos G c i h)) in
     let region : x / G .region * G .region ≡ c * G .region = ap (λ (r : ℕ). r * G .region) class in
     let s : ℕ = slotSize G (x / G .region) in
     let rest : x % G .region / s * s ≡ i * slotSize G c = rw (class, rw class at slot) in
-    omega (arith, region, rest, div-add-mod' x (G .region), div-add-mod' (x % G .region) s)
+    (class, slot, omega (arith, region, rest, div-add-mod' x (G .region), div-add-mod' (x % G .region) s))

@@ -14,6 +14,7 @@ use Rattle.search.specs.Those.{those}
 use Rattle.search.proofs.First.{first-range}
 use Rattle.search.proofs.Those.{those-next, those-none, those-few}
 use Rattle.writing.specs.Overwrite.{overwrite}
+use Rattle.writing.proofs.Parts.{no-bytes}
 use Rattle.answer.specs.declared.Refusal.the-variants.{ListTooShort}
 use Rattle.answer.specs.Reply.{served}
 use Rattle.rules.specs.Inspect.{unlisted, listed, listedWhole}
@@ -105,8 +106,4 @@ module _ (list offsets : List ℕ) {wanted : ℕ} (count : wanted ≡ length off
   list-none e =
       let none : length offsets ≡ 0 = sym count ∙ e in
       let (whole, all) = list-fits (omega arith) in
-      whole ∙ rw (empty offsets none)
-    where
-      empty : (xs : List ℕ) → length xs ≡ 0 → xs ≡ []
-      empty [] z = refl
-      empty (x ∷ xs) z = absurd (omega arith)
+      whole ∙ rw (no-bytes offsets none)

@@ -18,7 +18,7 @@ use Rattle.geometry.specs.declared.Layout.{Layout}
 use Rattle.geometry.specs.declared.Location.{Location}
 use Rattle.geometry.specs.Layout.{classes, heapLength, slotSize, longestSlot, slots, slotStart, locate}
 use Rattle.geometry.proofs.Geometry.{slot-size-some, slot-size-whole, slot-size-le}
-use Rattle.geometry.proofs.Slots.{slots-end-le, slot-size-pos, slot-within, slot-located, slot-start-into, located-start}
+use Rattle.geometry.proofs.Slots.{slots-end-le, slot-within, start-located, located-start}
 use Rattle.rules.specs.Metadata.{canaryOf, bitmapOf}
 use Rattle.rules.specs.Canary.{hasDamage}
 use Rattle.rules.specs.Object.{isStart, isLive}
@@ -83,9 +83,8 @@ module _ (G : Layout) (m h : List ℕ) (c : ℕ) where
   -- where one starts, a hit of the heap is one of the class
   hit-slot : (i : ℕ) → i < slots G c → isHit G m h (slotStart G c i) ≡ inClass i
   hit-slot i l =
-      let x : ℕ = slotStart G c i in
-      let (class, slot) = slot-located G c i x l (le-refl x) (omega (arith, slot-size-pos G c i l)) in
-      let into : x % G .region % slotSize G c ≡ 0 = rw class at (slot-start-into G c i l) in
+      let (class, slot, start) = start-located G c i l in
+      let into : slotStart G c i % G .region % slotSize G c ≡ 0 = rw class at start in
       rw (class, rw class at slot, into, lt-ltb i (slots G c) l, slot-bytes i l)
 
   -- and only there is one

@@ -37,41 +37,41 @@ abbrev pub heapOf : ℕ → ℕ
 heapOf R = classes * R
 
 -- the answer to an opening on metadata of some length, FF hex throughout, with zeros as the pattern
-unfoldable pub opened : ℕ → ℕ → ℕ → ℕ → List ℕ
-opened R metadataBytes z w = numbers (opening (heapOf R) (replicate metadataBytes 0xff) (setup z w 0) .answer)
+unfoldable pub answerToOpening : ℕ → ℕ → ℕ → ℕ → List ℕ
+answerToOpening R metadataBytes z w = numbers (opening (heapOf R) (replicate metadataBytes 0xff) (setup z w 0) .answer)
 
 -- metadata with clear bitmaps, counts of 0, zeros as the pattern and any generator, of an opening or not
 unfoldable pub clear : ℕ → ℕ → ℕ → List ℕ
 clear R z w = withGenerator (replicate (metadataLength (layoutOf (heapOf R))) 0) (seeds z w)
 
 -- requests, by operation
-abbrev pub allocate : ℕ → List ℕ
-allocate size = requestBytes 0 size 0
+abbrev pub toAllocate : ℕ → List ℕ
+toAllocate size = requestBytes 0 size 0
 
-abbrev pub free : ℕ → List ℕ
-free offset = requestBytes 1 offset 0
+abbrev pub toFree : ℕ → List ℕ
+toFree offset = requestBytes 1 offset 0
 
-abbrev pub remaining : ℕ → List ℕ
-remaining offset = requestBytes 2 offset 0
+abbrev pub toMeasure : ℕ → List ℕ
+toMeasure offset = requestBytes 2 offset 0
 
-abbrev pub copyBytes : ℕ → List ℕ
-copyBytes offset = requestBytes 3 offset 0
+abbrev pub toCopy : ℕ → List ℕ
+toCopy offset = requestBytes 3 offset 0
 
-abbrev pub copyString : ℕ → List ℕ
-copyString offset = requestBytes 4 offset 0
+abbrev pub toCopyString : ℕ → List ℕ
+toCopyString offset = requestBytes 4 offset 0
 
-abbrev pub copyPadded : ℕ → ℕ → List ℕ
-copyPadded offset count = requestBytes 5 offset count
+abbrev pub toCopyPadded : ℕ → ℕ → List ℕ
+toCopyPadded offset count = requestBytes 5 offset count
 
-abbrev pub read : ℕ → ℕ → List ℕ
-read offset count = requestBytes 6 offset count
+abbrev pub toRead : ℕ → ℕ → List ℕ
+toRead offset count = requestBytes 6 offset count
 
 -- the answer to a request on metadata m, and the metadata after it
 unfoldable pub answerTo : ℕ → List ℕ → List ℕ → List ℕ
 answerTo R m r = numbers (serve (heapOf R) m r (lent []) .answer)
 
-unfoldable pub after : ℕ → List ℕ → List ℕ → List ℕ
-after R m r = serve (heapOf R) m r (lent []) .metadata
+unfoldable pub leftAfter : ℕ → List ℕ → List ℕ → List ℕ
+leftAfter R m r = serve (heapOf R) m r (lent []) .metadata
 
 -- where bytes lie that are shown: 0 and their offset in the heap, or 1 for the front of the page
 unfoldable pub placeOf : Place → List ℕ

@@ -11,7 +11,7 @@ use Rattle.rules.specs.Open.{setup}
 use Rattle.rules.specs.Serve.{lent}
 use Rattle.rules.specs.Call.{Call, State, stateOf, serveOn, stateAfter, opening}
 use Rattle.rules.specs.Inspect.{isHit}
-use Rattle.known_answers.specs.Calls.{Row, row, numbers, heapOf, allocate, free, inspecting}
+use Rattle.known_answers.specs.Calls.{Row, row, numbers, heapOf, toAllocate, toFree, inspecting}
 
 -- ---- regions of 1,024 bytes: class 0 has slots of 8 bytes, class 5 of 256 (heap from 5,120), class 7 one slot (heap
 -- from 7,168), class 8 none
@@ -41,14 +41,14 @@ part offset n heap = take n (drop offset heap)
 -- an object of 5 bytes lies at 640; its slot is written over, and so is a byte on either side
 unfoldable pub overrun : State
 overrun =
-    let s : State = stateAfter newly (allocate 5) (lent []) in
+    let s : State = stateAfter newly (toAllocate 5) (lent []) in
     stateOf (overwrite (s .heap) 639 (replicate 10 0xff)) (s .metadata)
 
 -- the answer to a free then, with metadata m, and the ten bytes
 unfoldable pub freeing : List ℕ → ℕ → List ℕ
 freeing m offset =
     let s : State = stateOf (overrun .heap) m in
-    let c : Call = serveOn s (free offset) (lent []) in
+    let c : Call = serveOn s (toFree offset) (lent []) in
     numbers (c .answer) ++ part 639 10 (c .heap (s .heap))
 
 -- ---- inspections

@@ -9,8 +9,8 @@ use Rattle.geometry.specs.Layout.{layoutOf, header, classOf}
 use Rattle.request.specs.Parse.{requestBytes}
 use Rattle.rules.specs.Serve.{lent}
 use Rattle.rules.specs.Call.{serve}
-use Rattle.known_answers.specs.Calls.{Row, row, heapOf, opened, clear, allocate, free, remaining, copyBytes}
-use Rattle.known_answers.specs.Calls.{copyString, copyPadded, read, answerTo, after, showing, voting}
+use Rattle.known_answers.specs.Calls.{Row, row, heapOf, answerToOpening, clear, toAllocate, toFree, toMeasure, toCopy}
+use Rattle.known_answers.specs.Calls.{toCopyString, toCopyPadded, toRead, answerTo, leftAfter, showing, voting}
 use Rattle.known_answers.specs.Table.{copying}
 
 -- ---- regions of 4,096 bytes: class 4 has 32 slots of 128 bytes, its bitmap is bytes 180 to 183 and its count byte 24
@@ -29,7 +29,7 @@ atCapacity = set (set (clear 4_096 0x9069 0x4650) 188 0x01) 40 1
 
 -- the paper's bench run before its last request; a measuring and what was refused leave no trace
 unfoldable pub afterSeven : List ℕ
-afterSeven = after 4_096 (after 4_096 (after 4_096 (clear 4_096 1 1) (allocate 5)) (allocate 100)) (free 640)
+afterSeven = leftAfter 4_096 (leftAfter 4_096 (leftAfter 4_096 (clear 4_096 1 1) (toAllocate 5)) (toAllocate 100)) (toFree 640)
 
 -- a name of at most nine letters, A to I
 unfoldable pub letters : ℕ → List ℕ
@@ -73,38 +73,38 @@ shownThere = shownWith (0x70 ∷ 0x71 ∷ 0x72 ∷ [])
 unfoldable pub eachAbove : ℕ → ℕ → List ℕ
 eachAbove R more =
     let m : ℕ → List ℕ = λ c. putWord (clear R 1 1) (8 + 4 * c) (R / (16 * 2 ^ c) + more) in
-    tabulate (λ c. serve (heapOf R) (m c) (remaining 0) (lent []) .answer .number) 0 12
+    tabulate (λ c. serve (heapOf R) (m c) (toMeasure 0) (lent []) .answer .number) 0 12
 
 -- ---- the table
 
 unfoldable pub further : List Row
 further =
     -- the walk goes round the end; z is that after 32 draws
-    row (answerTo 4_096 lastSet (allocate 128)) (0 ∷ 16_384 ∷ [])
-    ∷ row (after 4_096 lastSet (allocate 128))
+    row (answerTo 4_096 lastSet (toAllocate 128)) (0 ∷ 16_384 ∷ [])
+    ∷ row (leftAfter 4_096 lastSet (toAllocate 128))
     (set (set (set (clear 4_096 0x57e707d4 0x464fffff) 183 0x80) 180 0x01) 24 2)
     -- the walk goes up from the slot tested to the next clear one
-    ∷ row (answerTo 4_096 firstSet (allocate 128)) (0 ∷ 16_640 ∷ [])
-    ∷ row (after 4_096 firstSet (allocate 128)) (set (set (clear 4_096 0 0) 180 0x0f) 24 4)
+    ∷ row (answerTo 4_096 firstSet (toAllocate 128)) (0 ∷ 16_640 ∷ [])
+    ∷ row (leftAfter 4_096 firstSet (toAllocate 128)) (set (set (clear 4_096 0 0) 180 0x0f) 24 4)
     -- refused at capacity, with the generator where it was
-    ∷ row (answerTo 4_096 atCapacity (allocate 2_048)) (7 ∷ 0 ∷ [])
-    ∷ row (after 4_096 atCapacity (allocate 2_048)) atCapacity
+    ∷ row (answerTo 4_096 atCapacity (toAllocate 2_048)) (7 ∷ 0 ∷ [])
+    ∷ row (leftAfter 4_096 atCapacity (toAllocate 2_048)) atCapacity
     -- bits beyond the slots are kept: the third draw takes slot 3, and a free clears slot 0
-    ∷ row (answerTo 1_024 (classFive 0xf1 1) (allocate 256)) (0 ∷ 5_888 ∷ [])
-    ∷ row (drop 8 (after 1_024 (classFive 0xf1 1) (allocate 256))) (drop 8 (classFive 0xf9 2))
-    ∷ row (answerTo 1_024 (classFive 0xf1 1) (free 5_120)) (0 ∷ 256 ∷ [])
-    ∷ row (after 1_024 (classFive 0xf1 1) (free 5_120)) (classFive 0xf0 0)
+    ∷ row (answerTo 1_024 (classFive 0xf1 1) (toAllocate 256)) (0 ∷ 5_888 ∷ [])
+    ∷ row (drop 8 (leftAfter 1_024 (classFive 0xf1 1) (toAllocate 256))) (drop 8 (classFive 0xf9 2))
+    ∷ row (answerTo 1_024 (classFive 0xf1 1) (toFree 5_120)) (0 ∷ 256 ∷ [])
+    ∷ row (leftAfter 1_024 (classFive 0xf1 1) (toFree 5_120)) (classFive 0xf0 0)
     -- counts are believed: with 64 of 128 slots set and none counted one is taken, with none set and 64 counted none
-    ∷ row (answerTo 1_024 (nearHalf 0xff 0) (allocate 0)) (0 ∷ 640 ∷ [])
-    ∷ row (answerTo 1_024 (counting 8 64) (allocate 0)) (7 ∷ 0 ∷ [])
+    ∷ row (answerTo 1_024 (nearHalf 0xff 0) (toAllocate 0)) (0 ∷ 640 ∷ [])
+    ∷ row (answerTo 1_024 (counting 8 64) (toAllocate 0)) (7 ∷ 0 ∷ [])
     -- refused as corrupt, before the request is read: 65 of 128 counted, one in a class of one slot and in one of none,
     -- and 2^31, of which twice is 0 in 32 bits; half is not refused
     ∷ row (answerTo 1_024 (counting 8 65) (requestBytes 7 0 0)) (13 ∷ 0 ∷ [])
-    ∷ row (after 1_024 (counting 8 65) (free 0)) (counting 8 65)
-    ∷ row (answerTo 1_024 (counting 36 1) (remaining 0)) (13 ∷ 0 ∷ [])
-    ∷ row (answerTo 1_024 (counting 52 1) (copyBytes 12_288)) (13 ∷ 0 ∷ [])
-    ∷ row (answerTo 1_024 (counting 11 0x80) (allocate 16_385)) (13 ∷ 0 ∷ [])
-    ∷ row (answerTo 1_024 (counting 8 64) (remaining 0)) (0 ∷ 0 ∷ [])
+    ∷ row (leftAfter 1_024 (counting 8 65) (toFree 0)) (counting 8 65)
+    ∷ row (answerTo 1_024 (counting 36 1) (toMeasure 0)) (13 ∷ 0 ∷ [])
+    ∷ row (answerTo 1_024 (counting 52 1) (toCopy 12_288)) (13 ∷ 0 ∷ [])
+    ∷ row (answerTo 1_024 (counting 11 0x80) (toAllocate 16_385)) (13 ∷ 0 ∷ [])
+    ∷ row (answerTo 1_024 (counting 8 64) (toMeasure 0)) (0 ∷ 0 ∷ [])
     -- the same of every class: one above half, and half, where each has two slots or more, and where some have one or
     -- none
     ∷ row (eachAbove 32_768 1) (replicate 12 13)
@@ -112,109 +112,109 @@ further =
     ∷ row (eachAbove 1_024 1) (replicate 12 13)
     ∷ row (eachAbove 1_024 0) (replicate 12 0)
     -- but after the lengths
-    ∷ row (answerTo 1_024 (drop 1 (counting 8 65)) (free 0)) (3 ∷ 0 ∷ [])
-    ∷ row (answerTo 1_536 (counting 8 65) (free 0)) (2 ∷ 0 ∷ [])
+    ∷ row (answerTo 1_024 (drop 1 (counting 8 65)) (toFree 0)) (3 ∷ 0 ∷ [])
+    ∷ row (answerTo 1_536 (counting 8 65) (toFree 0)) (2 ∷ 0 ∷ [])
     -- refused as corrupt, and nothing changed, z and w neither: an allocation that finds no clear slot, and a free
     -- where none is counted; a clear slot is not allocated all the same
-    ∷ row (answerTo 1_024 (classFive 0x0f 1) (allocate 256)) (13 ∷ 0 ∷ [])
-    ∷ row (after 1_024 (classFive 0x0f 1) (allocate 256)) (classFive 0x0f 1)
-    ∷ row (answerTo 1_024 (classFive 0x01 0) (free 5_120)) (13 ∷ 0 ∷ [])
-    ∷ row (after 1_024 (classFive 0x01 0) (free 5_120)) (classFive 0x01 0)
-    ∷ row (answerTo 1_024 (classFive 0x01 0) (free 5_376)) (10 ∷ 0 ∷ [])
+    ∷ row (answerTo 1_024 (classFive 0x0f 1) (toAllocate 256)) (13 ∷ 0 ∷ [])
+    ∷ row (leftAfter 1_024 (classFive 0x0f 1) (toAllocate 256)) (classFive 0x0f 1)
+    ∷ row (answerTo 1_024 (classFive 0x01 0) (toFree 5_120)) (13 ∷ 0 ∷ [])
+    ∷ row (leftAfter 1_024 (classFive 0x01 0) (toFree 5_120)) (classFive 0x01 0)
+    ∷ row (answerTo 1_024 (classFive 0x01 0) (toFree 5_376)) (10 ∷ 0 ∷ [])
     -- and the same of all slots set and two counted is at capacity
-    ∷ row (answerTo 1_024 (classFive 0x0f 2) (allocate 256)) (7 ∷ 0 ∷ [])
+    ∷ row (answerTo 1_024 (classFive 0x0f 2) (toAllocate 256)) (7 ∷ 0 ∷ [])
     -- a region without slots
-    ∷ row (answerTo 1_024 (clear 1_024 1 1) (allocate 2_048)) (6 ∷ 0 ∷ [])
-    ∷ row (answerTo 1_024 (clear 1_024 1 1) (free 8_192)) (9 ∷ 0 ∷ [])
-    ∷ row (answerTo 1_024 (clear 1_024 1 1) (remaining 8_192)) (0 ∷ 0 ∷ [])
+    ∷ row (answerTo 1_024 (clear 1_024 1 1) (toAllocate 2_048)) (6 ∷ 0 ∷ [])
+    ∷ row (answerTo 1_024 (clear 1_024 1 1) (toFree 8_192)) (9 ∷ 0 ∷ [])
+    ∷ row (answerTo 1_024 (clear 1_024 1 1) (toMeasure 8_192)) (0 ∷ 0 ∷ [])
     -- a region with one slot, clear and then set; it may count none, so that it is not freed
-    ∷ row (answerTo 1_024 (clear 1_024 1 1) (allocate 1_024)) (6 ∷ 0 ∷ [])
-    ∷ row (answerTo 1_024 (clear 1_024 1 1) (free 7_168)) (10 ∷ 0 ∷ [])
-    ∷ row (answerTo 1_024 (clear 1_024 1 1) (free 7_169)) (9 ∷ 0 ∷ [])
-    ∷ row (answerTo 1_024 onlySlotSet (remaining 7_170)) (0 ∷ 1_022 ∷ [])
-    ∷ row (answerTo 1_024 onlySlotSet (free 7_168)) (13 ∷ 0 ∷ [])
-    ∷ row (after 1_024 onlySlotSet (free 7_168)) onlySlotSet
+    ∷ row (answerTo 1_024 (clear 1_024 1 1) (toAllocate 1_024)) (6 ∷ 0 ∷ [])
+    ∷ row (answerTo 1_024 (clear 1_024 1 1) (toFree 7_168)) (10 ∷ 0 ∷ [])
+    ∷ row (answerTo 1_024 (clear 1_024 1 1) (toFree 7_169)) (9 ∷ 0 ∷ [])
+    ∷ row (answerTo 1_024 onlySlotSet (toMeasure 7_170)) (0 ∷ 1_022 ∷ [])
+    ∷ row (answerTo 1_024 onlySlotSet (toFree 7_168)) (13 ∷ 0 ∷ [])
+    ∷ row (leftAfter 1_024 onlySlotSet (toFree 7_168)) onlySlotSet
     -- sizes and offsets
     ∷ row (classOf (layoutOf (heapOf 32_768)) 16_384 ∷ classOf (layoutOf (heapOf 32_768)) 16_385 ∷ []) (11 ∷ 12 ∷ [])
     ∷ row (classOf (layoutOf (heapOf 32_768)) 0 ∷ classOf (layoutOf (heapOf 32_768)) 1 ∷ []) (0 ∷ 0 ∷ [])
-    ∷ row (answerTo 32_768 (clear 32_768 1 1) (allocate 16_384)) (0 ∷ 360_448 ∷ [])
-    ∷ row (answerTo 32_768 (clear 32_768 1 1) (allocate 16_385)) (5 ∷ 0 ∷ [])
-    ∷ row (answerTo 1_024 (clear 1_024 1 1) (remaining 12_287)) (0 ∷ 0 ∷ [])
-    ∷ row (answerTo 1_024 (clear 1_024 1 1) (remaining 12_288)) (8 ∷ 0 ∷ [])
+    ∷ row (answerTo 32_768 (clear 32_768 1 1) (toAllocate 16_384)) (0 ∷ 360_448 ∷ [])
+    ∷ row (answerTo 32_768 (clear 32_768 1 1) (toAllocate 16_385)) (5 ∷ 0 ∷ [])
+    ∷ row (answerTo 1_024 (clear 1_024 1 1) (toMeasure 12_287)) (0 ∷ 0 ∷ [])
+    ∷ row (answerTo 1_024 (clear 1_024 1 1) (toMeasure 12_288)) (8 ∷ 0 ∷ [])
     -- requests for nothing: the third draw takes slot 335, which has 8 bytes; a class with 63 of 128 slots live takes
     -- one more, and one with 64 none
-    ∷ row (answerTo 4_096 afterSeven (allocate 0)) (0 ∷ 2_680 ∷ [])
-    ∷ row (after 4_096 afterSeven (allocate 0))
+    ∷ row (answerTo 4_096 afterSeven (toAllocate 0)) (0 ∷ 2_680 ∷ [])
+    ∷ row (leftAfter 4_096 afterSeven (toAllocate 0))
     (set (set (set (set (clear 4_096 0x2a58ab6f 0x3b99e34f) 8 1) 24 1) 101 0x80) 180 0x01)
-    ∷ row (answerTo 4_096 (after 4_096 afterSeven (allocate 0)) (remaining 2_680)) (0 ∷ 8 ∷ [])
-    ∷ row (answerTo 1_024 (nearHalf 0x7f 63) (allocate 0)) (0 ∷ 640 ∷ [])
-    ∷ row (answerTo 1_024 (nearHalf 0xff 64) (allocate 0)) (7 ∷ 0 ∷ [])
-    ∷ row (after 1_024 (nearHalf 0xff 64) (allocate 0)) (nearHalf 0xff 64)
+    ∷ row (answerTo 4_096 (leftAfter 4_096 afterSeven (toAllocate 0)) (toMeasure 2_680)) (0 ∷ 8 ∷ [])
+    ∷ row (answerTo 1_024 (nearHalf 0x7f 63) (toAllocate 0)) (0 ∷ 640 ∷ [])
+    ∷ row (answerTo 1_024 (nearHalf 0xff 64) (toAllocate 0)) (7 ∷ 0 ∷ [])
+    ∷ row (leftAfter 1_024 (nearHalf 0xff 64) (toAllocate 0)) (nearHalf 0xff 64)
     -- strings into the 8 bytes at 640: 9 letters, and 8 with their zero, are clipped and closed; 8 letters, and 7 with
     -- their zero, just fit
-    ∷ row (copying (copyString 640) (letters 9)) (0 ∷ 8 ∷ letters 7 ++ (0 ∷ kept 1))
-    ∷ row (copying (copyString 640) (letters 8 ++ (0 ∷ []))) (0 ∷ 8 ∷ letters 7 ++ (0 ∷ kept 1))
-    ∷ row (copying (copyString 640) (letters 8)) (0 ∷ 8 ∷ letters 8 ++ kept 1)
-    ∷ row (copying (copyString 640) (letters 7 ++ (0 ∷ []))) (0 ∷ 8 ∷ letters 7 ++ (0 ∷ kept 1))
+    ∷ row (copying (toCopyString 640) (letters 9)) (0 ∷ 8 ∷ letters 7 ++ (0 ∷ kept 1))
+    ∷ row (copying (toCopyString 640) (letters 8 ++ (0 ∷ []))) (0 ∷ 8 ∷ letters 7 ++ (0 ∷ kept 1))
+    ∷ row (copying (toCopyString 640) (letters 8)) (0 ∷ 8 ∷ letters 8 ++ kept 1)
+    ∷ row (copying (toCopyString 640) (letters 7 ++ (0 ∷ []))) (0 ∷ 8 ∷ letters 7 ++ (0 ∷ kept 1))
     -- from the middle on, 5 bytes are left; at the last byte the zero alone; past it nothing is live
-    ∷ row (copying (copyString 643) (letters 6)) (0 ∷ 5 ∷ kept 3 ++ (letters 4 ++ (0 ∷ kept 1)))
-    ∷ row (copying (copyString 643) (letters 5)) (0 ∷ 5 ∷ kept 3 ++ (letters 5 ++ kept 1))
-    ∷ row (copying (copyString 647) (letters 2)) (0 ∷ 1 ∷ kept 7 ++ (0 ∷ kept 1))
-    ∷ row (copying (copyString 648) (letters 9)) (0 ∷ 0 ∷ kept 9)
+    ∷ row (copying (toCopyString 643) (letters 6)) (0 ∷ 5 ∷ kept 3 ++ (letters 4 ++ (0 ∷ kept 1)))
+    ∷ row (copying (toCopyString 643) (letters 5)) (0 ∷ 5 ∷ kept 3 ++ (letters 5 ++ kept 1))
+    ∷ row (copying (toCopyString 647) (letters 2)) (0 ∷ 1 ∷ kept 7 ++ (0 ∷ kept 1))
+    ∷ row (copying (toCopyString 648) (letters 9)) (0 ∷ 0 ∷ kept 9)
     -- what is no string is clipped without an end
-    ∷ row (copying (copyBytes 640) (letters 9)) (0 ∷ 8 ∷ letters 8 ++ kept 1)
-    ∷ row (copying (copyPadded 640 9) (letters 9)) (0 ∷ 8 ∷ letters 8 ++ kept 1)
+    ∷ row (copying (toCopy 640) (letters 9)) (0 ∷ 8 ∷ letters 8 ++ kept 1)
+    ∷ row (copying (toCopyPadded 640 9) (letters 9)) (0 ∷ 8 ∷ letters 8 ++ kept 1)
     -- reads of a live object: to its end, part of it, and nothing, which is no part of the page
-    ∷ row (shownThere onlySlotSet (read 8_188 9)) (0 ∷ 4 ∷ 0 ∷ 8_188 ∷ 1 ∷ 2 ∷ 3 ∷ 4 ∷ [])
-    ∷ row (shownThere onlySlotSet (read 8_189 2)) (0 ∷ 2 ∷ 0 ∷ 8_189 ∷ 2 ∷ 3 ∷ [])
-    ∷ row (shownThere onlySlotSet (read 8_189 0)) (0 ∷ 0 ∷ 0 ∷ 8_189 ∷ [])
+    ∷ row (shownThere onlySlotSet (toRead 8_188 9)) (0 ∷ 4 ∷ 0 ∷ 8_188 ∷ 1 ∷ 2 ∷ 3 ∷ 4 ∷ [])
+    ∷ row (shownThere onlySlotSet (toRead 8_189 2)) (0 ∷ 2 ∷ 0 ∷ 8_189 ∷ 2 ∷ 3 ∷ [])
+    ∷ row (shownThere onlySlotSet (toRead 8_189 0)) (0 ∷ 0 ∷ 0 ∷ 8_189 ∷ [])
     -- more than a few bytes, and a whole object
-    ∷ row (shownThere onlySlotSet (read 8_180 11)) (0 ∷ 11 ∷ 0 ∷ 8_180 ∷ replicate 8 0x11 ++ (1 ∷ 2 ∷ 3 ∷ []))
-    ∷ row (shownThere onlySlotSet (read 7_168 1_025))
+    ∷ row (shownThere onlySlotSet (toRead 8_180 11)) (0 ∷ 11 ∷ 0 ∷ 8_180 ∷ replicate 8 0x11 ++ (1 ∷ 2 ∷ 3 ∷ []))
+    ∷ row (shownThere onlySlotSet (toRead 7_168 1_025))
     (0 ∷ 1_024 ∷ 0 ∷ 7_168 ∷ replicate 1_020 0x11 ++ (1 ∷ 2 ∷ 3 ∷ 4 ∷ []))
     -- reads of the page: of a clear slot, of more than the page has, in a region without slots, and of no page
-    ∷ row (shownThere (clear 1_024 1 1) (read 8_188 2)) (0 ∷ 2 ∷ 1 ∷ 0x70 ∷ 0x71 ∷ [])
-    ∷ row (shownThere (clear 1_024 1 1) (read 8_188 4_294_967_295)) (0 ∷ 3 ∷ 1 ∷ 0x70 ∷ 0x71 ∷ 0x72 ∷ [])
-    ∷ row (shownThere onlySlotSet (read 8_192 1)) (0 ∷ 1 ∷ 1 ∷ 0x70 ∷ [])
-    ∷ row (showing [] [] 1_024 (clear 1_024 1 1) (read 8_188 2)) (0 ∷ 0 ∷ 1 ∷ [])
+    ∷ row (shownThere (clear 1_024 1 1) (toRead 8_188 2)) (0 ∷ 2 ∷ 1 ∷ 0x70 ∷ 0x71 ∷ [])
+    ∷ row (shownThere (clear 1_024 1 1) (toRead 8_188 4_294_967_295)) (0 ∷ 3 ∷ 1 ∷ 0x70 ∷ 0x71 ∷ 0x72 ∷ [])
+    ∷ row (shownThere onlySlotSet (toRead 8_192 1)) (0 ∷ 1 ∷ 1 ∷ 0x70 ∷ [])
+    ∷ row (showing [] [] 1_024 (clear 1_024 1 1) (toRead 8_188 2)) (0 ∷ 0 ∷ 1 ∷ [])
     -- of a longer page
-    ∷ row (shownWith (letters 9) (clear 1_024 1 1) (read 8_188 7)) (0 ∷ 7 ∷ 1 ∷ letters 7)
-    ∷ row (shownWith (letters 9) (clear 1_024 1 1) (read 8_188 10)) (0 ∷ 9 ∷ 1 ∷ letters 9)
+    ∷ row (shownWith (letters 9) (clear 1_024 1 1) (toRead 8_188 7)) (0 ∷ 7 ∷ 1 ∷ letters 7)
+    ∷ row (shownWith (letters 9) (clear 1_024 1 1) (toRead 8_188 10)) (0 ∷ 9 ∷ 1 ∷ letters 9)
     -- refused reads, and what is no read, show the empty part of the page: past the end, on metadata a byte short or
     -- with too high a count, and where a byte is set that must be zero
-    ∷ row (shownThere onlySlotSet (read 12_288 4)) (8 ∷ 0 ∷ 1 ∷ [])
-    ∷ row (shownThere (drop 1 onlySlotSet) (read 8_188 4)) (3 ∷ 0 ∷ 1 ∷ [])
-    ∷ row (shownThere (set onlySlotSet 12 33) (read 8_188 4)) (13 ∷ 0 ∷ 1 ∷ [])
-    ∷ row (shownThere onlySlotSet (set (read 8_188 4) 12 1)) (4 ∷ 0 ∷ 1 ∷ [])
-    ∷ row (shownThere onlySlotSet (remaining 8_188)) (0 ∷ 4 ∷ 1 ∷ [])
+    ∷ row (shownThere onlySlotSet (toRead 12_288 4)) (8 ∷ 0 ∷ 1 ∷ [])
+    ∷ row (shownThere (drop 1 onlySlotSet) (toRead 8_188 4)) (3 ∷ 0 ∷ 1 ∷ [])
+    ∷ row (shownThere (set onlySlotSet 12 33) (toRead 8_188 4)) (13 ∷ 0 ∷ 1 ∷ [])
+    ∷ row (shownThere onlySlotSet (set (toRead 8_188 4) 12 1)) (4 ∷ 0 ∷ 1 ∷ [])
+    ∷ row (shownThere onlySlotSet (toMeasure 8_188)) (0 ∷ 4 ∷ 1 ∷ [])
     -- requests: the last operation, none such, a count where there is none, and 15 and 17 bytes
     ∷ row (answerTo 1_024 (clear 1_024 1 1) (requestBytes 6 0 1)) (0 ∷ 0 ∷ [])
     ∷ row (answerTo 1_024 (clear 1_024 1 1) (requestBytes 7 0 0)) (4 ∷ 0 ∷ [])
     ∷ row (answerTo 1_024 (clear 1_024 1 1) (requestBytes 4 0 1)) (4 ∷ 0 ∷ [])
-    ∷ row (answerTo 1_024 (clear 1_024 1 1) (drop 1 (remaining 0))) (4 ∷ 0 ∷ [])
-    ∷ row (answerTo 1_024 (clear 1_024 1 1) (remaining 0 ++ (0 ∷ []))) (4 ∷ 0 ∷ [])
+    ∷ row (answerTo 1_024 (clear 1_024 1 1) (drop 1 (toMeasure 0))) (4 ∷ 0 ∷ [])
+    ∷ row (answerTo 1_024 (clear 1_024 1 1) (toMeasure 0 ++ (0 ∷ []))) (4 ∷ 0 ∷ [])
     -- openings, of metadata with every count at its highest: the shortest and the longest heap, half and twice that, no
     -- power of two, metadata a byte off, and seeds of 0
-    ∷ row (opened 1_024 94 1 1) (0 ∷ 0 ∷ [])
-    ∷ row (opened 1_048_576 32_820 1 1) (0 ∷ 0 ∷ [])
-    ∷ row (opened 512 94 1 1) (2 ∷ 0 ∷ [])
-    ∷ row (opened 2_097_152 65_588 1 1) (2 ∷ 0 ∷ [])
-    ∷ row (opened 1_536 94 1 1) (2 ∷ 0 ∷ [])
-    ∷ row (opened 1_024 93 1 1) (3 ∷ 0 ∷ [])
-    ∷ row (opened 1_024 95 0 0) (3 ∷ 0 ∷ [])
-    ∷ row (opened 1_024 94 0 1) (1 ∷ 0 ∷ [])
-    ∷ row (opened 1_024 94 1 0) (1 ∷ 0 ∷ [])
+    ∷ row (answerToOpening 1_024 94 1 1) (0 ∷ 0 ∷ [])
+    ∷ row (answerToOpening 1_048_576 32_820 1 1) (0 ∷ 0 ∷ [])
+    ∷ row (answerToOpening 512 94 1 1) (2 ∷ 0 ∷ [])
+    ∷ row (answerToOpening 2_097_152 65_588 1 1) (2 ∷ 0 ∷ [])
+    ∷ row (answerToOpening 1_536 94 1 1) (2 ∷ 0 ∷ [])
+    ∷ row (answerToOpening 1_024 93 1 1) (3 ∷ 0 ∷ [])
+    ∷ row (answerToOpening 1_024 95 0 0) (3 ∷ 0 ∷ [])
+    ∷ row (answerToOpening 1_024 94 0 1) (1 ∷ 0 ∷ [])
+    ∷ row (answerToOpening 1_024 94 1 0) (1 ∷ 0 ∷ [])
     -- seeds that freeze, each in its own half, and after the lengths; those next to them, and in the other half
-    ∷ row (opened 1_024 94 0x9068ffff 1) (1 ∷ 0 ∷ [])
-    ∷ row (opened 1_024 94 1 0x464fffff) (1 ∷ 0 ∷ [])
-    ∷ row (opened 1_024 94 1 0x8c9ffffe) (1 ∷ 0 ∷ [])
-    ∷ row (opened 1_024 94 1 0xd2effffd) (1 ∷ 0 ∷ [])
-    ∷ row (opened 1_024 93 0x9068ffff 0x464fffff) (3 ∷ 0 ∷ [])
-    ∷ row (opened 1_024 94 0x9068fffe 0x464ffffe) (0 ∷ 0 ∷ [])
-    ∷ row (opened 1_024 94 0x90690000 0x46500000) (0 ∷ 0 ∷ [])
-    ∷ row (opened 1_024 94 0x464fffff 0x9068ffff) (0 ∷ 0 ∷ [])
-    ∷ row (opened 1_024 94 0x8c9ffffe 0x8c9ffffd) (0 ∷ 0 ∷ [])
-    ∷ row (opened 1_024 94 0xd2effffd 0xd2effffe) (0 ∷ 0 ∷ [])
+    ∷ row (answerToOpening 1_024 94 0x9068ffff 1) (1 ∷ 0 ∷ [])
+    ∷ row (answerToOpening 1_024 94 1 0x464fffff) (1 ∷ 0 ∷ [])
+    ∷ row (answerToOpening 1_024 94 1 0x8c9ffffe) (1 ∷ 0 ∷ [])
+    ∷ row (answerToOpening 1_024 94 1 0xd2effffd) (1 ∷ 0 ∷ [])
+    ∷ row (answerToOpening 1_024 93 0x9068ffff 0x464fffff) (3 ∷ 0 ∷ [])
+    ∷ row (answerToOpening 1_024 94 0x9068fffe 0x464ffffe) (0 ∷ 0 ∷ [])
+    ∷ row (answerToOpening 1_024 94 0x90690000 0x46500000) (0 ∷ 0 ∷ [])
+    ∷ row (answerToOpening 1_024 94 0x464fffff 0x9068ffff) (0 ∷ 0 ∷ [])
+    ∷ row (answerToOpening 1_024 94 0x8c9ffffe 0x8c9ffffd) (0 ∷ 0 ∷ [])
+    ∷ row (answerToOpening 1_024 94 0xd2effffd 0xd2effffe) (0 ∷ 0 ∷ [])
     -- votes: 2 and 17 replicas, blocks of 0 and 4,097 bytes; 3 and 16 replicas, blocks of 4,096 bytes
     ∷ row (voting (replicate 2 0x41) 2 1 1) (11 ∷ 0 ∷ 0 ∷ 0xff ∷ [])
     ∷ row (voting (replicate 17 0x41) 17 1 1) (11 ∷ 0 ∷ 0 ∷ 0xff ∷ [])

@@ -8,8 +8,8 @@ use Rattle.geometry.specs.Layout.{layoutOf, classOf, metadataLength}
 use Rattle.rules.specs.Open.{setup}
 use Rattle.rules.specs.Serve.{lent}
 use Rattle.rules.specs.Call.{Call, serve, opening}
-use Rattle.known_answers.specs.Calls.{Row, row, seeds, numbers, heapOf, allocate, free, copyBytes, copyString}
-use Rattle.known_answers.specs.Calls.{copyPadded, answerTo, after, voting}
+use Rattle.known_answers.specs.Calls.{Row, row, seeds, numbers, heapOf, toAllocate, toFree, toCopy, toCopyString}
+use Rattle.known_answers.specs.Calls.{toCopyPadded, answerTo, leftAfter, voting}
 
 -- ---- a heap with regions of 4,096 bytes, opened with z = 1, w = 1 and zeros as the pattern
 
@@ -24,7 +24,7 @@ start = opening (heapOf R) (replicate (metadataLength G) 0) (setup 1 1 0) .metad
 
 -- with an object of 5 bytes, which lies at 640
 unfoldable pub oneObject : List ℕ
-oneObject = after R start (allocate 5)
+oneObject = leftAfter R start (toAllocate 5)
 
 -- the answer to a request while that object is live, and then the 8 bytes at 640 and the one after them, which were FF
 -- hex
@@ -46,15 +46,15 @@ table =
     ∷ row (drawn (next (seeds 5 65_535)) ∷ []) (408_730_032 ∷ [])
     ∷ row oneObject (set (set (set (set (set (set (replicate 190 0) 0 0x69) 1 0x90) 4 0x50) 5 0x46) 8 0x01) 70 0x01)
     ∷ row (classOf G 8 ∷ classOf G 9 ∷ []) (0 ∷ 1 ∷ [])
-    ∷ row (answerTo R start (allocate 2_048) ++ answerTo R (after R start (allocate 2_048)) (allocate 2_048))
+    ∷ row (answerTo R start (toAllocate 2_048) ++ answerTo R (leftAfter R start (toAllocate 2_048)) (toAllocate 2_048))
     (0 ∷ 32_768 ∷ 7 ∷ 0 ∷ [])
-    ∷ row (copying (copyBytes 643) (1 ∷ 2 ∷ 3 ∷ 4 ∷ 5 ∷ 6 ∷ 7 ∷ 8 ∷ []))
+    ∷ row (copying (toCopy 643) (1 ∷ 2 ∷ 3 ∷ 4 ∷ 5 ∷ 6 ∷ 7 ∷ 8 ∷ []))
     (0 ∷ 5 ∷ 0xff ∷ 0xff ∷ 0xff ∷ 1 ∷ 2 ∷ 3 ∷ 4 ∷ 5 ∷ 0xff ∷ [])
-    ∷ row (copying (copyString 640) (0x41 ∷ 0x42 ∷ 0x00 ∷ 0x43 ∷ []))
+    ∷ row (copying (toCopyString 640) (0x41 ∷ 0x42 ∷ 0x00 ∷ 0x43 ∷ []))
     (0 ∷ 3 ∷ 0x41 ∷ 0x42 ∷ 0x00 ∷ 0xff ∷ 0xff ∷ 0xff ∷ 0xff ∷ 0xff ∷ 0xff ∷ [])
-    ∷ row (copying (copyPadded 640 4) (0x41 ∷ 0x00 ∷ 0x43 ∷ []))
+    ∷ row (copying (toCopyPadded 640 4) (0x41 ∷ 0x00 ∷ 0x43 ∷ []))
     (0 ∷ 4 ∷ 0x41 ∷ 0x00 ∷ 0x00 ∷ 0x00 ∷ 0xff ∷ 0xff ∷ 0xff ∷ 0xff ∷ 0xff ∷ [])
-    ∷ row (answerTo R start (free 49_152)) (8 ∷ 0 ∷ [])
+    ∷ row (answerTo R start (toFree 49_152)) (8 ∷ 0 ∷ [])
     ∷ row (bytesVoted (0x41 ∷ 0x42 ∷ 0x41 ∷ [])) (0 ∷ 5 ∷ 2 ∷ 0x41 ∷ [])
     ∷ row (bytesVoted (0x42 ∷ 0x41 ∷ 0x41 ∷ 0x42 ∷ [])) (0 ∷ 9 ∷ 2 ∷ 0x42 ∷ [])
     ∷ row (bytesVoted (0x41 ∷ 0x42 ∷ 0x43 ∷ [])) (12 ∷ 0 ∷ 0 ∷ 0xff ∷ [])

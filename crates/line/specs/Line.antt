@@ -28,12 +28,12 @@ names =
     ∷ []
 
 -- how many there are
-abbrev pub operations : ℕ
-operations = length names
+abbrev pub operationCount : ℕ
+operationCount = length names
 
 -- the operation that a word names; their number where it names none
 unfoldable pub operationOf : List ℕ → ℕ
-operationOf name = first (λ k. alike name (getD names k [])) 0 operations
+operationOf name = first (λ k. alike name (getD names k [])) 0 operationCount
 
 -- a request, where no word is left from place a on
 unfoldable pub request : List ℕ → ℕ → ℕ → ℕ → ℕ → Line
@@ -66,7 +66,7 @@ statement text =
     let operation : ℕ = operationOf (wordAt text w) in
     cond (eqb (w .start) (length text))
     Nothing
-    (cond (eqb operation operations) (BadOperation w) (operands text (w .end) operation))
+    (cond (eqb operation operationCount) (BadOperation w) (operands text (w .end) operation))
 
 abbrev pub hash : ℕ
 hash = 35

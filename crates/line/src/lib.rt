@@ -12,7 +12,7 @@ ghost use lib.ListN.{length, getD};
 ghost use Rattle.alike.specs.Alike.{alike};
 ghost use Rattle.line.specs.Text.{trimmedEnd};
 ghost use Rattle.line.specs.Number.{limit};
-ghost use Rattle.line.specs.Line.{names, operations, operationOf, request, counted, operands};
+ghost use Rattle.line.specs.Line.{names, operationCount, operationOf, request, counted, operands};
 ghost use Rattle.line.specs.Line.{statement, readText, readLine};
 
 // Where a word lies in its line.
@@ -41,7 +41,7 @@ pub const LONGEST: usize = 255;
 const OPERATIONS: u32 = 7;
 
 fn is_name(word: &[u8], operation: u32) -> bool
-    requires { ⌜ operation < operations ⌝ }
+    requires { ⌜ operation < operationCount ⌝ }
     ensures { λ r. ⌜ r ≡ alike (now (word .entry)) (getD names operation []) ⌝ }
 {
     match operation {

@@ -2,11 +2,12 @@
 use Prim.Native.Nat.{ℕ, zero, suc, _+_, _*_, _/_, _^_, _≤_, _<_}
 use native.Mathlib.Nat.{zero-add, suc-add}
 use native.Mathlib.Omega.{arith}
-use mathlib.Core.Path.{_≡_, refl, sym, ap, _∙_}
+use mathlib.Core.Path.{_≡_, sym, ap, _∙_}
 use mathlib.Core.Bool.{false}
 use mathlib.Core.List.{List, [], _∷_, _++_, append-assoc, append-nil, flatten}
 use lib.ListN.{length, take, drop, length-append, length-take, length-drop, take-append-drop}
 use lib.Seq.{take-append-le, drop-append-le}
+use Rattle.writing.proofs.Parts.{no-bytes}
 use Rattle.request.specs.Parse.{requestSize}
 use Rattle.rules.specs.Serve.{lent}
 use Rattle.rules.specs.Call.{State, stateAfter}
@@ -14,11 +15,6 @@ use Rattle.replay.specs.Line.{lineRoom, lineFor}
 use Rattle.replay.specs.Batch.{Batch, behind, replay, requests, batchOf}
 use Rattle.replay.specs.Pieces.{ready, rest, replayAll, replayIn}
 use Rattle.replay.proofs.Replayed.{accepted-all, behind-both}
-
--- no bytes
-empty : (a : List ℕ) → length a ≡ 0 → a ≡ []
-empty [] e = refl
-empty (x ∷ a) e = absurd (omega arith)
 
 -- k whole requests, and j after them
 module _ (b : List ℕ) (j : ℕ) where
@@ -36,7 +32,7 @@ module _ (b : List ℕ) (j : ℕ) where
       → let x = replay [] k s number a in
       replay [] (k + j) s number (a ++ b) ≡ behind (x .text) (replay [] j (x .state) (x .next) b)
   unfolding replay
-  replay-append zero a s number e = rw (empty a e, zero-add)
+  replay-append zero a s number e = rw (no-bytes a e, zero-add)
   replay-append (suc k) a s number e =
       let more = replay-append k (drop requestSize a) (stateAfter s (take requestSize a) (lent [])) (number + 1) (fewer k a e) in
       rw (suc-add, first k a e, later k a e, more) (behind-both (lineFor s (take requestSize a) [] number) _ _)

@@ -41,8 +41,8 @@ abbrev pub batchOf : List ℕ → ℕ → State → ℕ → List ℕ → Batch
 batchOf source room s number input = replay source (accepted room number input) s number input
 
 -- what one request comes to; nothing where `room` bytes have no room for a line
-abbrev pub stepOf : List ℕ → ℕ → State → ℕ → List ℕ → Batch
-stepOf source room s number request =
+abbrev pub single : List ℕ → ℕ → State → ℕ → List ℕ → Batch
+single source room s number request =
     cond (hasRoom room)
     (record { text = lineFor s request source number; state = stateAfter s request (lent source); next = number + 1 })
     (record { text = []; state = s; next = number })

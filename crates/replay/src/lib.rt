@@ -9,7 +9,7 @@ ghost use Rattle.writing.specs.Overwrite.{overwrite};
 ghost use Rattle.request.specs.Parse.{requestSize};
 ghost use Rattle.rules.specs.Call.{State, stateOf};
 ghost use Rattle.replay.specs.Line.{field, lineOf, lineRoom};
-ghost use Rattle.replay.specs.Batch.{Batch, accepted, batchOf, stepOf};
+ghost use Rattle.replay.specs.Batch.{Batch, accepted, batchOf, single};
 
 // Room for any line.
 pub const LINE_ROOM: usize = 3 * (decimal::WIDTH + 1);
@@ -52,7 +52,7 @@ pub fn step(
 ) -> usize
     ensures { λ r.
         let s : State = stateOf (now (heap .entry)) (now (metadata .entry)) in
-        let b : Batch = stepOf (now (source .entry)) (length (now (out .entry))) s number (now (request .entry)) in
+        let b : Batch = single (now (source .entry)) (length (now (out .entry))) s number (now (request .entry)) in
         ⌜ (r ≡ length (b .text)) × (now (out .exit) ≡ overwrite (now (out .entry)) 0 (b .text))
         × (stateOf (now (heap .exit)) (now (metadata .exit)) ≡ b .state) ⌝ }
     ensures { λ r. ⌜ (r ≤ length (now (out .entry))) × (r ≤ lineRoom) ⌝ }

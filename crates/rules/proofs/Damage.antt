@@ -14,7 +14,7 @@ use Rattle.search.proofs.Rising.{rising-same}
 use Rattle.geometry.specs.declared.Layout.{Layout}
 use Rattle.geometry.specs.declared.Location.{Location}
 use Rattle.geometry.specs.Layout.{heapLength, slotSize, slots, slotStart, locate}
-use Rattle.geometry.proofs.Slots.{slot-size-pos, slot-inside, slot-located, located-start, slot-start-into}
+use Rattle.geometry.proofs.Slots.{slot-inside, located-start, start-located}
 use Rattle.bitmap.specs.Bitmap.{bit, isSet}
 use Rattle.bitmap.proofs.Slot.{is-clear}
 use Rattle.rules.specs.Metadata.{canaryOf, bitmapOf}
@@ -103,11 +103,11 @@ module _ (G : Layout) (m h : List ℕ) where
         at : ℕ
         at = slotStart G c i
 
-        located : (locate G at .class ≡ c) × (locate G at .slot ≡ i)
-        located = slot-located G c i at (d .exists) (omega arith) (omega (arith, slot-size-pos G c i (d .exists)))
+        located : (locate G at .class ≡ c) × (locate G at .slot ≡ i) × (locate G at .into ≡ 0)
+        located = start-located G c i (d .exists)
 
         starts : isStart G (locate G at) ≡ true
-        starts = rw (slot-start-into G c i (d .exists), located .1, located .0, lt-ltb i (slots G c) (d .exists))
+        starts = rw (located .2, located .1, located .0, lt-ltb i (slots G c) (d .exists))
 
         clear : isLive G m (locate G at) ≡ false
         clear = rw (located .1, located .0) (bit-clear G m c i (d .exists) (d .clear))

@@ -11,7 +11,7 @@ use Rattle.mwc.specs.declared.Generator.{Generator}
 use Rattle.geometry.specs.declared.Layout.{Layout}
 use Rattle.geometry.specs.Layout.{classes, longestRegion, classOf, slots, slotStart, locate, bitmapAt, bitmapLength, metadataLength}
 use Rattle.geometry.proofs.Geometry.{bitmap-after}
-use Rattle.geometry.proofs.Slots.{slots-le, slots-class, slot-size-pos, slot-located, slot-start-into}
+use Rattle.geometry.proofs.Slots.{slots-le, slots-class, start-located}
 use Rattle.bitmap.specs.Bitmap.{bit}
 use Rattle.bitmap.proofs.Slot.{bit-past}
 use Rattle.bitmap.proofs.Change.{Turned, set-turns, clear-turns}
@@ -25,7 +25,8 @@ use Rattle.writing.proofs.Writing.{overwrite-length}
 use Rattle.rules.proofs.Metadata.{generator-length, generator-counts, generator-canary, generator-bitmaps}
 use Rattle.rules.proofs.Metadata.{count-length, count-written, count-other, count-bitmaps, count-canary}
 use Rattle.rules.proofs.Metadata.{canary-length, canary-counts, canary-bitmaps, bitmap-canary}
-use Rattle.rules.proofs.Metadata.{bitmap-within, bitmap-length, bitmap-written, bitmap-other, bitmap-counts, zeros}
+use Rattle.rules.proofs.Metadata.{bitmap-within, bitmap-length, bitmap-written, bitmap-other, bitmap-counts}
+use Rattle.writing.proofs.Parts.{zeros}
 use Rattle.rules.proofs.Finding.{allocate-finds, free-finds}
 
 -- the bit of slot i of class c
@@ -64,9 +65,7 @@ pub record Changed (G : Layout) (m m′ : List ℕ) (c i v : ℕ) : Type 0 where
 -- the offset that a served allocation answers lies at the start of the slot taken
 pub allocated-located : (G : Layout) (c i : ℕ) (g : Generator) → i < slots G c → let l = locate G (reply G (allocated c i g) .value) in
     (l .class ≡ c) × (l .slot ≡ i) × (l .into ≡ 0)
-allocated-located G c i g slot =
-    let (class, same) = slot-located G c i (slotStart G c i) slot (omega arith) (omega (arith, slot-size-pos G c i slot)) in
-    (class, same, slot-start-into G c i slot)
+allocated-located G c i g slot = start-located G c i slot
 
 module _ (G : Layout) (m : List ℕ) (valid : Valid G m) where
   -- a bitmap with one slot's bit turned is written back, and the count is stored

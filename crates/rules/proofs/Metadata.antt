@@ -1,11 +1,11 @@
 -- Parts of the metadata read back after one is written.
-use Prim.Native.Nat.{ℕ, zero, suc, _+_, _-_, _^_, _≤_, _<_}
-use mathlib.Core.Path.{_≡_, refl, ap, _∙_}
+use Prim.Native.Nat.{ℕ, suc, _+_, _-_, _^_, _≤_, _<_}
+use mathlib.Core.Path.{_≡_, ap, _∙_}
 use mathlib.Core.List.{List}
 use native.Mathlib.Nat.{le-suc, add-sub-cancel-left}
 use native.Mathlib.Decide.{decLt}
 use native.Mathlib.Omega.{arith}
-use lib.ListN.{length, take, drop, getD, replicate, length-take, length-drop}
+use lib.ListN.{length, take, drop, length-take, length-drop}
 use Rattle.mwc.specs.declared.Generator.{Generator}
 use Rattle.geometry.specs.declared.Layout.{Layout}
 use Rattle.geometry.specs.declared.Part.{Part}
@@ -142,9 +142,3 @@ module _ (G : Layout) (c : ℕ) {p : Part} (of : p ≡ partOf G c) where
   pub part-bitmap : (m : List ℕ) → take (p .end - p .start) (drop (p .start) m) ≡ bitmapOf G c m
   unfolding bitmapAt
   part-bitmap m = rw (of, add-sub-cancel-left (bitmapAt G c) (bitmapLength G c))
-
--- of zeros every element is 0
-pub zeros : (n i : ℕ) → _≡_ {A = ℕ} (getD (replicate n 0) i 0) 0
-zeros zero i = refl
-zeros (suc n) zero = refl
-zeros (suc n) (suc i) = zeros n i

@@ -9,7 +9,7 @@ use borrow.Author.Tests.{leb-true, ltb-true, eqb-true, eq-eqb, ne-eqb}
 use Rattle.geometry.specs.declared.Layout.{Layout}
 use Rattle.geometry.specs.Layout.{slots, slotStart, locate}
 use Rattle.runs.specs.Live.{Object, without, sizeOf, hasByte, holding, ofClass}
-use Rattle.geometry.proofs.Slots.{slot-located, slot-size-pos}
+use Rattle.geometry.proofs.Slots.{slot-located, slot-size-pos, start-located}
 
 -- an object is a slot of its class
 pub record IsSlot (G : Layout) (o : Object) : Type 0 where
@@ -72,13 +72,10 @@ module _ (x : ℕ) where
 
 module _ (G : Layout) where
   -- a slot is located at its start, so no two slots start at one byte
-  start-located : (c i : ℕ) → i < slots G c → (locate G (slotStart G c i) .class ≡ c) × (locate G (slotStart G c i) .slot ≡ i)
-  start-located c i h = slot-located G c i (slotStart G c i) h (omega arith) (omega (arith, slot-size-pos G c i h))
-
   pub same-start : (c i d j : ℕ) → i < slots G c → j < slots G d → slotStart G c i ≡ slotStart G d j → (c ≡ d) × (i ≡ j)
   same-start c i d j h k e =
-      let (class, slot) = start-located c i h in
-      let (class′, slot′) = start-located d j k in
+      let (class, slot, into) = start-located G c i h in
+      let (class′, slot′, into′) = start-located G d j k in
       (sym class ∙ ap (λ x. locate G x .class) e ∙ class′, sym slot ∙ ap (λ x. locate G x .slot) e ∙ slot′)
 
   -- no object of another class starts where a slot does

@@ -5,10 +5,9 @@ use mathlib.Core.Bool.{Bool, true, false, cond}
 use mathlib.Core.Option.{none, some}
 use mathlib.Core.List.{List, [], _∷_, _++_, filter}
 use mathlib.Core.Logic.{_↔_, _⊎_, inl, inr, ite}
-use native.Mathlib.Nat.{zero-add, suc-add, add-zero}
+use native.Mathlib.Nat.{zero-add, suc-add}
 use native.Mathlib.Omega.{arith}
 use lib.ListN.{length}
-use Rattle.search.specs.Those.{those}
 use Rattle.runs.specs.Wordings.{At}
 
 -- ---- places
@@ -109,22 +108,3 @@ module _ {A : Type 0} {p : A → Type 0} (passes : (a : A) → Dec (p a)) where
     | yes k ↦ omega (arith, filter-yes x xs k, filter-none xs (λ j y f q. h 0 (suc j) x y (omega arith) refl f k q))
     | no n ↦ omega (arith, filter-no x xs n, filter-one xs (λ i j y z l. h (suc i) (suc j) y z (omega arith)))
   ]
-
--- ---- the numbers that pass a test
-
--- how many they are with one number more at the end
-pub those-more : (test : ℕ → Bool) (i k : ℕ) → length (those test i (suc k)) ≡ cond (test (i + k)) 1 0 + length (those test i k)
-unfolding those
-those-more test i zero = go (test i) refl
-  where
-    go : (t : Bool) → test i ≡ t → length (those test i 1) ≡ cond (test (i + 0)) 1 0 + 0
-    go true e = rw (add-zero i, e, those)
-    go false e = rw (add-zero i, e, those)
-those-more test i (suc k) =
-    let same : i + suc k ≡ suc i + k = omega arith in
-    go (test i) refl (rw (← same) at (those-more test (suc i) k))
-  where
-    go : (t : Bool) → test i ≡ t → length (those test (suc i) (suc k)) ≡ cond (test (i + suc k)) 1 0 + length (those test (suc i) k)
-        → length (those test i (suc (suc k))) ≡ cond (test (i + suc k)) 1 0 + length (those test i (suc k))
-    go true e more = rw (e, those) (omega (arith, more))
-    go false e more = rw (e, those) more

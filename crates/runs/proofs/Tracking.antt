@@ -1,5 +1,5 @@
 -- The live objects are the set slots, and are counted.
-use Prim.Native.Nat.{ℕ, zero, suc, _+_, _*_, _≤_, _<_}
+use Prim.Native.Nat.{ℕ, _+_, _*_, _≤_, _<_}
 use mathlib.Core.Path.{_≡_, refl, sym, subst, _∙_}
 use mathlib.Core.List.{List, [], _∷_}
 use mathlib.Core.Logic.{Dec·and}
@@ -10,6 +10,7 @@ use borrow.Author.Tests.{eq-eqb, ne-eqb}
 use Rattle.geometry.specs.declared.Layout.{Layout}
 use Rattle.geometry.specs.Layout.{classes, slots, slotStart}
 use Rattle.bitmap.specs.Bitmap.{bit, countSet}
+use Rattle.bitmap.proofs.Counted.{count-none, count-same, count-but-one}
 use Rattle.request.specs.declared.Request.{Request}
 use Rattle.request.specs.declared.Request.the-variants.{Allocate, Free, Remaining, Copy, Read}
 use Rattle.request.specs.declared.Parsed.{Parsed}
@@ -25,26 +26,6 @@ use Rattle.rules.proofs.Effects.{liveBit, Takes, fresh-none, fresh-clear}
 use Rattle.runs.proofs.Results.{Change, turn, Made, Result, refusal, allocation, freeing, measuring, eventBy}
 use Rattle.runs.proofs.Objects.{IsSlot, Slots, starting, without-slots, class-parts, same-start, holding-one}
 use Rattle.runs.proofs.Objects.{starting-gone, starting-kept, starting-other, starting-self}
-
--- ---- counts of a bitmap
-
-module _ (b b′ : List ℕ) where
-  -- bitmaps with the same bits have the same count
-  count-same : (n : ℕ) → ((j : ℕ) → j < n → bit b′ j ≡ bit b j) → countSet b′ n ≡ countSet b n
-  unfolding countSet
-  count-same zero h = refl
-  count-same (suc n) h = rw (h n (omega arith), count-same n (λ j l. h j (omega arith)))
-
-  -- and with one bit changed, the count changes as that bit does
-  count-but-one : (i n : ℕ) → i < n → ((j : ℕ) → j < n → (j ≡ i → ⊥) → bit b′ j ≡ bit b j) → countSet b′ n + bit b i ≡ countSet b n + bit b′ i
-  unfolding countSet
-  count-but-one i zero l h = absurd (omega arith)
-  count-but-one i (suc n) l h = elim (ℕ-discrete i n) [
-    | yes e ↦ rw (e, count-same n (λ j k. h j (omega arith) (omega arith))) (omega arith)
-    | no e ↦ omega (arith, count-but-one i n (omega arith) (λ j k. h j (omega arith)), h n (omega arith) (omega arith))
-  ]
-
--- ---- objects and metadata
 
 -- the objects are slots, as many at each as its bit says, and in each class as many as are set and as it counts, no more than half
 pub record Tracks (G : Layout) (m : List ℕ) (os : List Object) : Type 0 where
@@ -65,12 +46,6 @@ tracks-sound G m os t =
 -- and counted
 pub tracks-counted : (G : Layout) (m : List ℕ) (os : List Object) → Tracks G m os → Counted G m os
 tracks-counted G m os t = record { set = λ c h. t .counted c (omega arith) ∙ t .bits-set c; objects = t .counted }
-
--- of clear bits none is counted
-count-none : (b : List ℕ) (n : ℕ) → ((i : ℕ) → bit b i ≡ 0) → 0 ≡ countSet b n
-unfolding countSet
-count-none b zero h = refl
-count-none b (suc n) h = omega (arith, h n, count-none b n h)
 
 -- fresh metadata has no objects
 pub fresh-tracks : (G : Layout) (s : Setup) → Tracks G (fresh G s) []

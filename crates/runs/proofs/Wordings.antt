@@ -12,6 +12,7 @@ use lib.ListN.{length, getD, drop}
 use lib.Seq.{getD-take, getD-drop}
 use borrow.Author.Tests.{leb-true, ltb-true, eqb-true, eqb-false, le-leb, lt-ltb, ne-eqb}
 use Rattle.search.specs.Those.{those}
+use Rattle.search.proofs.Those.{those-more}
 use Rattle.geometry.specs.declared.Layout.{Layout}
 use Rattle.geometry.specs.Layout.{slotSize, slots, bitmapAt, bitmapLength}
 use Rattle.geometry.proofs.Slots.{slot-size-pos}
@@ -23,7 +24,7 @@ use Rattle.runs.specs.Run.{Entry, HeapsOfLength, Event}
 use Rattle.runs.specs.Pair.{Pair, PairOff}
 use Rattle.runs.specs.Live.{Object, hasByte, holding, ofClass, Sound, Counted, Never}
 use Rattle.runs.specs.Wordings.{At, endOf, Has, having, inClass, Disjoint, SoundByPlaces, setSlots, CountedByLists, HeapsAllOf, NowhereIn, PairByPlaces}
-use Rattle.runs.proofs.Places.{at-nowhere, at-first, all-places, filter-counts, filter-some, filter-two, filter-one, those-more}
+use Rattle.runs.proofs.Places.{at-nowhere, at-first, all-places, filter-counts, filter-some, filter-two, filter-one}
 
 -- ---- objects
 

@@ -2,11 +2,12 @@
 -- same numbers, and which they are.
 use Prim.Native.Nat.{ℕ, zero, suc, _+_, _-_, _≤_, _<_}
 use mathlib.Core.Path.{_≡_, refl, sym, ap, _∙_}
-use mathlib.Core.Bool.{Bool, true, false, true≢false}
+use mathlib.Core.Bool.{Bool, true, false, true≢false, cond}
 use mathlib.Core.Logic.{_⊎_, inl, inr, ∥∥₁-elim}
 use mathlib.Core.List.{List, [], _∷_, List·Memᴰ, List·Memᴰ·head, List·Memᴰ·tail, List·Memᴰ·not-nil, List·Memᴰ·cases-cons}
 use mathlib.Core.List.{Pairwise, Pairwise·nil, Pairwise·cons}
 use native.Mathlib.Bridge.{le-prop}
+use native.Mathlib.Nat.{add-zero}
 use native.Mathlib.Decide.{ℕ-discrete}
 use native.Mathlib.Omega.{arith}
 use lib.ListN.{length}
@@ -60,6 +61,23 @@ module _ (test : ℕ → Bool) where
       go : (t : Bool) → test i ≡ t → length (those test (suc i) k) ≤ k → length (those test i (suc k)) ≤ suc k
       go true e rest = rw (e, those) (omega arith)
       go false e rest = rw (e, those) (omega arith)
+
+  -- how many they are with one number more at the end
+  pub those-more : (i k : ℕ) → length (those test i (suc k)) ≡ cond (test (i + k)) 1 0 + length (those test i k)
+  unfolding those
+  those-more i zero = go (test i) refl
+    where
+      go : (t : Bool) → test i ≡ t → length (those test i 1) ≡ cond (test (i + 0)) 1 0 + 0
+      go true e = rw (add-zero i, e, those)
+      go false e = rw (add-zero i, e, those)
+  those-more i (suc k) =
+      let same : i + suc k ≡ suc i + k = omega arith in
+      go (test i) refl (rw (← same) at (those-more (suc i) k))
+    where
+      go : (t : Bool) → test i ≡ t → length (those test (suc i) (suc k)) ≡ cond (test (i + suc k)) 1 0 + length (those test (suc i) k)
+          → length (those test i (suc (suc k))) ≡ cond (test (i + suc k)) 1 0 + length (those test i (suc k))
+      go true e more = rw (e, those) (omega (arith, more))
+      go false e more = rw (e, those) more
 
   pub those-same : (other : ℕ → Bool) (i k : ℕ) → ((x : ℕ) → i ≤ x → x < i + k → test x ≡ other x) → those test i k ≡ those other i k
   unfolding those

@@ -1,13 +1,24 @@
--- Parts read back after one is written over: the part written, and those before and after it.
+-- Parts of lists; and those read back after one is written over: the part written, and those before and after it.
 use Prim.Native.Nat.{ℕ, zero, suc, _+_, _-_, _≤_, _<_}
-use mathlib.Core.Path.{_≡_, sym, ap, _∙_}
+use mathlib.Core.Path.{_≡_, refl, sym, ap, _∙_}
 use mathlib.Core.List.{List, [], _∷_, _++_, append-assoc}
 use native.Mathlib.Nat.{zero-add, suc-add}
 use native.Mathlib.Omega.{arith}
-use lib.ListN.{length, take, drop, getD, length-drop, take-append-drop, List·getD-append}
+use lib.ListN.{length, take, drop, getD, replicate, length-drop, take-append-drop, List·getD-append}
 use lib.Seq.{take-nil, length-take-le, take-at, take-take, drop-at, drop-drop, getD-take, getD-drop}
 use lib.Seq.{take-append-le, drop-append-le, drop-append-seam, getD-append-add}
 use Rattle.writing.specs.Overwrite.{overwrite}
+
+-- what has no length is empty
+pub no-bytes : (xs : List ℕ) → length xs ≡ 0 → xs ≡ []
+no-bytes [] e = refl
+no-bytes (x ∷ xs) e = absurd (omega arith)
+
+-- of zeros every one is 0
+pub zeros : (n i : ℕ) → _≡_ {A = ℕ} (getD (replicate n 0) i 0) 0
+zeros zero i = refl
+zeros (suc n) zero = refl
+zeros (suc n) (suc i) = zeros n i
 
 -- a part of a front is a part of the whole
 pub drop-take : (n m : ℕ) (xs : List ℕ) → drop n (take (n + m) xs) ≡ take m (drop n xs)

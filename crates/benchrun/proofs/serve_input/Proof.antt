@@ -7,7 +7,7 @@ use mathlib.Core.Logic.{inl, inr}
 use mathlib.Core.List.{List}
 use lib.ListN.{length}
 use Rattle.request.specs.Parse.{requestSize}
-use Rattle.benchrun.specs.Replay.{heapBytes, firstNumber, inputRoom, requestsRoom}
+use Rattle.benchrun.specs.Replay.{heapBytes, firstNumber, inputRoom, mostRequests}
 use Rattle.benchrun.specs.declared.Turn.{Turn}
 use Rattle.benchrun.proofs.Opening.{metadata-bytes}
 use Rattle.benchrun.proofs.serve_input.Statement.{statement}
@@ -19,7 +19,7 @@ record Kept (heap metadata input out : List ℕ) (kept next reads : ℕ) : Type 
   input-length : length input ≡ inputRoom
   out-length : length out ≡ 65536
   few : kept < requestSize
-  numbers : next ≤ 1 + requestsRoom * reads
+  numbers : next ≤ 1 + mostRequests * reads
   some : reads ≤ 2 ^ 53
 
 abbrev Inv-loop : tie.InvT-loop

@@ -7,17 +7,17 @@ use lib.ListN.{getD}
 use Rattle.search.specs.First.{first}
 use Rattle.alike.specs.Alike.{alike}
 use Rattle.search.proofs.First.{first-found, first-past, first-none}
-use Rattle.line.specs.Line.{names, operations, operationOf}
+use Rattle.line.specs.Line.{names, operationCount, operationOf}
 use Rattle.line.proofs.operation_of.Statement.{statement}
 use Rattle.line.proofs.operation_of.Tie as tie
 
 abbrev Inv-loop : tie.InvT-loop
 Inv-loop word operation₀ operation =
-    (operation ≤ operations)
-    × (operationOf word ≡ first (λ k. alike word (getD names k [])) operation (operations - operation))
+    (operation ≤ operationCount)
+    × (operationOf word ≡ first (λ k. alike word (getD names k [])) operation (operationCount - operation))
 
 abbrev μ-loop : tie.MeasureT-loop
-μ-loop word operation₀ operation = operations - operation
+μ-loop word operation₀ operation = operationCount - operation
 
 loop-holds : tie.Need-loop-holds Inv-loop μ-loop
 unfolding operationOf
