@@ -9,7 +9,8 @@ use Rattle.mwc.specs.Draw.{isOneOf}
 use Rattle.geometry.specs.Layout.{regionOf, bitmapAt, slotSize}
 use Rattle.rules.specs.Open.{fresh}
 use Rattle.rules.specs.Call.{opening, openedBy}
-use Rattle.rules.proofs.Serving.{right-lengths, opening-served}
+use Rattle.judge.proofs.Judging.{right-lengths}
+use Rattle.rules.proofs.Serving.{opening-served}
 use Rattle.benchrun.specs.Replay.{layout, heapBytes, metadataBytes, given}
 
 -- the length that the program's array has

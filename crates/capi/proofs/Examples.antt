@@ -5,7 +5,7 @@ use mathlib.Core.List.{List, [], _∷_, map}
 use lib.ListN.{drop, set, replicate}
 use Rattle.search.specs.First.{first}
 use Rattle.geometry.specs.Layout.{slotSize, bitmapAt}
-use Rattle.rules.specs.Judge.{lengths, admit}
+use Rattle.judge.specs.Judge.{lengths, admit}
 use Rattle.rules.specs.Object.{space}
 use Rattle.rules.specs.Read.{read}
 use Rattle.rules.specs.Call.{serving, reading}

@@ -14,11 +14,11 @@ use Rattle.search.proofs.Those.{those-few}
 use Rattle.geometry.specs.declared.Layout.{Layout}
 use Rattle.geometry.specs.Layout.{classes, slotSize, slots, slotStart, locate}
 use Rattle.geometry.proofs.Slots.{slot-located, located-start, slots-held}
-use Rattle.rules.specs.declared.Judged.the-variants.{Laid}
-use Rattle.rules.specs.Judge.{admit}
+use Rattle.judge.specs.declared.Judged.the-variants.{Laid}
+use Rattle.judge.specs.Judge.{admit}
 use Rattle.rules.specs.Object.{isStart}
 use Rattle.rules.specs.Inspect.{isHit, hits, listed, inspection}
-use Rattle.rules.proofs.Serving.{admitted-laid}
+use Rattle.judge.proofs.Judging.{admitted-laid}
 use Rattle.rules.proofs.Inspecting.{inspection-laid}
 use Rattle.capi.specs.Slots.{slotsBefore, allSlots, countSlots}
 

@@ -6,7 +6,7 @@ use mathlib.Core.List.{List, [], _∷_, _++_}
 use lib.ListN.{replicate}
 use Rattle.search.specs.First.{first}
 use Rattle.geometry.specs.Layout.{layoutOf, slotSize, bitmapAt}
-use Rattle.rules.specs.Judge.{lengths}
+use Rattle.judge.specs.Judge.{lengths}
 use Rattle.capi.specs.declared.PohelduSlot.{PohelduSlot}
 use Rattle.capi.specs.Slots.{noSlot, slotsBefore, allSlots, nthSlot, findSlot, countSlots, storedPattern}
 

@@ -7,8 +7,8 @@ use lib.ListN.{length}
 use Rattle.geometry.specs.declared.Layout.{Layout}
 use Rattle.geometry.specs.declared.Location.{Location}
 use Rattle.geometry.specs.Layout.{classes, slotSize, slots, slotStart, locate}
-use Rattle.rules.specs.Metadata.{canaryOf}
-use Rattle.rules.specs.Judge.{lengths, onceLaid}
+use Rattle.metadata.specs.Metadata.{canaryOf}
+use Rattle.judge.specs.Judge.{lengths, onceLaid}
 use Rattle.capi.specs.declared.PohelduSlot.{PohelduSlot}
 
 abbrev pub noSlot : PohelduSlot

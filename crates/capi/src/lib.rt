@@ -15,8 +15,8 @@ ghost use Rattle.capi.specs.Slots.{nthSlot, findSlot, countSlots, stored
 use answer::Answer;
 use geometry::CANARY;
 use geometry::Plan;
+use judge::Judged;
 use numbers::wide;
-use rules::Judged;
 use view::Place;
 use vote::Verdict;
 

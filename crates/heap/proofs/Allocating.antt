@@ -17,8 +17,8 @@ use Rattle.answer.specs.declared.Refusal.the-variants.{UnsupportedSize, ClassTo
 use Rattle.answer.specs.Reply.{served}
 use Rattle.probe.specs.declared.Found.{Found}
 use Rattle.writing.specs.Overwrite.{overwrite}
-use Rattle.rules.specs.Metadata.{generatorOf, withGenerator, countOf, withCount}
-use Rattle.rules.proofs.Metadata.{part-bitmap}
+use Rattle.metadata.specs.Metadata.{generatorOf, withGenerator, countOf, withCount}
+use Rattle.metadata.proofs.Stored.{part-bitmap}
 use Rattle.heap.specs.Relied.{bitsOf}
 use Rattle.answer.specs.Checks.{_when_, checked}
 use Rattle.rules.specs.Outcome.{Outcome, refused, reply, metadataAfter}

@@ -9,7 +9,7 @@ use Rattle.geometry.specs.declared.Layout.{Layout}
 use Rattle.geometry.specs.declared.Location.{Location}
 use Rattle.geometry.specs.Layout.{heapLength, locate}
 use Rattle.answer.specs.declared.Refusal.the-variants.{NotASlotStart, NotAllocated, CorruptMetadata}
-use Rattle.rules.specs.Metadata.{countOf}
+use Rattle.metadata.specs.Metadata.{countOf}
 use Rattle.rules.specs.Outcome.{refused, freed}
 use Rattle.rules.specs.Object.{isStart, isLive, free}
 

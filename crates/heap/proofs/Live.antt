@@ -8,7 +8,7 @@ use Rattle.geometry.specs.declared.Location.{Location}
 use Rattle.geometry.specs.declared.Part.{Part}
 use Rattle.geometry.specs.Layout.{heapLength, slotSize, locate, partOf}
 use Rattle.bitmap.specs.Bitmap.{isSet}
-use Rattle.rules.proofs.Metadata.{part-bitmap}
+use Rattle.metadata.proofs.Stored.{part-bitmap}
 use Rattle.heap.specs.Relied.{bitsOf}
 use Rattle.rules.specs.Object.{isLive, space}
 use Rattle.rules.proofs.Space.{space-within}

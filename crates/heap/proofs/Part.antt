@@ -8,9 +8,9 @@ use Rattle.geometry.specs.declared.Layout.{Layout}
 use Rattle.geometry.specs.declared.Part.{Part}
 use Rattle.geometry.specs.Layout.{slots, bitmapAt, partOf}
 use Rattle.writing.specs.Overwrite.{overwrite}
-use Rattle.rules.specs.Judge.{Fits}
-use Rattle.rules.specs.Metadata.{bitmapOf}
-use Rattle.rules.proofs.Metadata.{part-rises, part-ends, part-bitmap}
+use Rattle.judge.specs.Judge.{Fits}
+use Rattle.metadata.specs.Metadata.{bitmapOf}
+use Rattle.metadata.proofs.Stored.{part-rises, part-ends, part-bitmap}
 use Rattle.heap.specs.Relied.{bitsOf, Within}
 
 -- a part that comes back as long as it was has been overwritten

@@ -14,7 +14,7 @@ use Rattle.geometry.proofs.Slots.{slots-class, slot-start-le}
 use Rattle.answer.specs.declared.Refusal.{Refusal}
 use Rattle.answer.specs.Reply.{Reply, served, refusedBy}
 use Rattle.answer.proofs.Numbers.{refusal-number}
-use Rattle.rules.specs.Metadata.{canaryOf}
+use Rattle.metadata.specs.Metadata.{canaryOf}
 use Rattle.rules.specs.Canary.{canaryByte, filled}
 use Rattle.rules.specs.Outcome.{Outcome, freed, reply, heapAfter}
 use Rattle.rules.specs.Object.{free}

@@ -6,7 +6,7 @@ use lib.ListN.{take, drop}
 use Rattle.geometry.specs.declared.Layout.{Layout}
 use Rattle.geometry.specs.declared.Part.{Part}
 use Rattle.geometry.specs.Layout.{classes, slots, partOf}
-use Rattle.rules.specs.Metadata.{countOf}
+use Rattle.metadata.specs.Metadata.{countOf}
 
 -- the bytes that are lent as a bitmap
 abbrev pub bitsOf : Part → List ℕ → List ℕ

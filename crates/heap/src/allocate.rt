@@ -16,7 +16,7 @@ ghost use Rattle.geometry.specs.Layout.{classes, longestRegion, heapLength, slo
 ghost use Rattle.answer.specs.Reply.{replyOf};
 ghost use Rattle.answer.specs.declared.Refusal.the-variants.{CorruptMetadata};
 ghost use Rattle.answer.specs.Checks.{_when_, checked};
-ghost use Rattle.rules.specs.Judge.{Fits};
+ghost use Rattle.judge.specs.Judge.{Fits};
 ghost use Rattle.rules.specs.Outcome.{refused, reply, metadataAfter};
 ghost use Rattle.rules.specs.Allocate.{foundIn, taken, allocate};
 ghost use Rattle.heap.specs.Relied.{Roomy};

@@ -8,7 +8,7 @@ use request::Kind;
 ghost use mathlib.Core.Path.{_≡_};
 ghost use lib.ListN.{length};
 ghost use Rattle.answer.specs.Reply.{replyOf};
-ghost use Rattle.rules.specs.Judge.{Fits};
+ghost use Rattle.judge.specs.Judge.{Fits};
 ghost use Rattle.rules.specs.Outcome.{reply, heapAfter};
 ghost use Rattle.rules.specs.Object.{copy};
 

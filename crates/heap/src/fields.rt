@@ -9,7 +9,7 @@ ghost use Prim.Native.Nat.{_+_, _≤_, _<_};
 ghost use lib.ListN.{length, replicate};
 ghost use Rattle.words.specs.Word.{wordAt, putWord};
 ghost use Rattle.geometry.specs.Layout.{classes, header};
-ghost use Rattle.rules.specs.Metadata.{generatorOf, withGenerator, countAt, countOf, withCount, canaryOf, withCanary};
+ghost use Rattle.metadata.specs.Metadata.{generatorOf, withGenerator, countAt, countOf, withCount, canaryOf, withCanary};
 
 const Z: usize = 0;
 

@@ -11,7 +11,7 @@ ghost use Prim.Native.Nat.{_+_, _≤_, _<_};
 ghost use lib.ListN.{length};
 ghost use Rattle.geometry.specs.Layout.{heapLength};
 ghost use Rattle.answer.specs.Reply.{replyOf};
-ghost use Rattle.rules.specs.Judge.{Fits};
+ghost use Rattle.judge.specs.Judge.{Fits};
 ghost use Rattle.rules.specs.Outcome.{reply, metadataAfter};
 ghost use Rattle.rules.specs.Object.{space, free, remaining};
 

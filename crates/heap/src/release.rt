@@ -7,7 +7,7 @@ use numbers::wide;
 ghost use mathlib.Core.Path.{_≡_};
 ghost use lib.ListN.{length};
 ghost use Rattle.answer.specs.Reply.{replyOf};
-ghost use Rattle.rules.specs.Judge.{Fits};
+ghost use Rattle.judge.specs.Judge.{Fits};
 ghost use Rattle.rules.specs.Outcome.{reply, metadataAfter, heapAfter};
 ghost use Rattle.rules.specs.Object.{free};
 

@@ -19,7 +19,7 @@ use Rattle.geometry.specs.declared.Location.{Location}
 use Rattle.geometry.specs.Layout.{classes, heapLength, slotSize, longestSlot, slots, slotStart, locate}
 use Rattle.geometry.proofs.Geometry.{slot-size-some, slot-size-whole, slot-size-le}
 use Rattle.geometry.proofs.Slots.{slots-end-le, slot-within, start-located, located-start}
-use Rattle.rules.specs.Metadata.{canaryOf, bitmapOf}
+use Rattle.metadata.specs.Metadata.{canaryOf, bitmapOf}
 use Rattle.rules.specs.Canary.{hasDamage}
 use Rattle.rules.specs.Object.{isStart, isLive}
 use Rattle.rules.specs.Inspect.{isHit}

@@ -3,16 +3,16 @@ use answer::Answer;
 use answer::Refusal;
 use geometry::CANARY;
 use geometry::Layout;
+use judge::Judged;
 use numbers::power_quotient;
 use numbers::wide;
-use rules::Judged;
 ghost use mathlib.Core.Path.{_≡_};
 ghost use Prim.Native.Nat.{suc, _-_, _*_, _/_, _<_};
 ghost use lib.ListN.{length, take};
 ghost use Rattle.search.specs.First.{first};
 ghost use Rattle.writing.specs.Overwrite.{overwrite};
 ghost use Rattle.answer.specs.Reply.{replyOf};
-ghost use Rattle.rules.specs.Judge.{Fits};
+ghost use Rattle.judge.specs.Judge.{Fits};
 ghost use Rattle.rules.specs.Inspect.{isHit, hits, listedWhole, inspection};
 ghost use Rattle.inspect.specs.Class.{isHitIn, SideBySide};
 

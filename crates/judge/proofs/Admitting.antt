@@ -12,8 +12,8 @@ use Rattle.search.proofs.First.{first-found, first-past, first-none}
 use Rattle.geometry.specs.declared.Layout.{Layout}
 use Rattle.geometry.specs.Layout.{classes, header, slots}
 use Rattle.geometry.proofs.Geometry.{bitmap-after}
-use Rattle.rules.specs.Metadata.{countAt, countOf}
-use Rattle.rules.specs.Judge.{Fits, isOver, anyOver}
+use Rattle.metadata.specs.Metadata.{countAt, countOf}
+use Rattle.judge.specs.Judge.{Fits, isOver, anyOver}
 
 -- metadata that fits has its fields
 pub has-fields : (G : Layout) {h n : ℕ} → Fits G h n → header ≤ n

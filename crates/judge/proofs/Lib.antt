@@ -1,2 +1,3 @@
--- Laws of the look at the live counts.
+-- Laws of lengths and live counts.
+pub mod Judging
 pub mod Admitting

@@ -6,12 +6,17 @@ use geometry::HEADER;
 use geometry::Layout;
 use geometry::Plan;
 use numbers::wide;
-use rules::Judged;
 ghost use mathlib.Core.Path.{_≡_};
 ghost use Prim.Native.Nat.{_≤_};
 ghost use lib.ListN.{length};
 ghost use Rattle.geometry.specs.Layout.{header};
-ghost use Rattle.rules.specs.Judge.{lengths, anyOver, admit};
+ghost use Rattle.judge.specs.Judge.{lengths, anyOver, admit};
+
+// What the lengths of a heap and its metadata come to.
+pub enum Judged {
+    Laid(Layout),
+    Unfit(Refusal),
+}
 
 pub fn lengths(heap_len: usize, metadata_len: usize) -> Judged
     ensures { λ r. ⌜ r ≡ lengths «heap_len» «metadata_len» ⌝ }

@@ -12,7 +12,7 @@ use Rattle.mwc.specs.Draw.{isOneOf}
 use Rattle.geometry.specs.Layout.{slotSize, bitmapAt}
 use Rattle.bitmap.specs.Bitmap.{putByte, nextClear}
 use Rattle.request.specs.Parse.{parse}
-use Rattle.rules.specs.Judge.{lengths, admit}
+use Rattle.judge.specs.Judge.{lengths, admit}
 use Rattle.probe.specs.Probe.{probe}
 use Rattle.rules.specs.Allocate.{allocate}
 use Rattle.rules.specs.Object.{free, space, remaining, copy}

@@ -11,7 +11,7 @@ use Rattle.geometry.specs.declared.Layout.{Layout}
 use Rattle.geometry.specs.Layout.{classes, classOf, slotSize, longestSlot, slots}
 use Rattle.geometry.proofs.Geometry.{class-none}
 use Rattle.answer.specs.declared.Refusal.the-variants.{UnsupportedSize}
-use Rattle.rules.specs.Metadata.{countOf}
+use Rattle.metadata.specs.Metadata.{countOf}
 use Rattle.rules.specs.Outcome.{Outcome, refused, reply}
 use Rattle.rules.specs.Allocate.{foundIn, allocate}
 

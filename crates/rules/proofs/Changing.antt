@@ -24,10 +24,10 @@ use Rattle.request.specs.declared.Parsed.the-variants.{Whole, Malformed}
 use Rattle.writing.specs.Overwrite.{overwrite}
 use Rattle.writing.proofs.Writing.{overwrite-length}
 use Rattle.writing.proofs.Parts.{at-before, at-written, at-after}
-use Rattle.rules.specs.declared.Judged.{Judged}
-use Rattle.rules.specs.declared.Judged.the-variants.{Laid, Unfit}
-use Rattle.rules.specs.Judge.{lengths, admit}
-use Rattle.rules.specs.Metadata.{canaryOf}
+use Rattle.judge.specs.declared.Judged.{Judged}
+use Rattle.judge.specs.declared.Judged.the-variants.{Laid, Unfit}
+use Rattle.judge.specs.Judge.{lengths, admit}
+use Rattle.metadata.specs.Metadata.{canaryOf}
 use Rattle.rules.specs.Canary.{canaryByte, filled, filledByte, filledHeap}
 use Rattle.rules.specs.Open.{Setup}
 use Rattle.rules.specs.Outcome.{Outcome, freed, told, heapAfter}
@@ -39,7 +39,8 @@ use Rattle.rules.proofs.Space.{live-lt, space-within}
 use Rattle.rules.proofs.Clipping.{writes-le}
 use Rattle.rules.proofs.Finding.{passed, free-finds}
 use Rattle.rules.proofs.Outcomes.{Comes, refuses, serves, allocate-comes, free-comes, remaining-comes, copy-comes, read-comes}
-use Rattle.rules.proofs.Serving.{admit-fits, serving-acts, serving-unfit, opening-unfit, opening-unusable, opening-served, laid-fits}
+use Rattle.judge.proofs.Judging.{admit-fits, laid-fits}
+use Rattle.rules.proofs.Serving.{serving-acts, serving-unfit, opening-unfit, opening-unusable, opening-served}
 use Rattle.rules.proofs.Refusing.{serve-refused}
 
 -- ---- the words of the theorem, worded otherwise

@@ -17,7 +17,7 @@ use Rattle.geometry.specs.Layout.{heapLength, slotSize, slots, slotStart, locat
 use Rattle.geometry.proofs.Slots.{slot-inside, located-start, start-located}
 use Rattle.bitmap.specs.Bitmap.{bit, isSet}
 use Rattle.bitmap.proofs.Slot.{is-clear}
-use Rattle.rules.specs.Metadata.{canaryOf, bitmapOf}
+use Rattle.metadata.specs.Metadata.{canaryOf, bitmapOf}
 use Rattle.rules.specs.Canary.{canaryByte, isDamaged, damage, hasDamage}
 use Rattle.rules.specs.Object.{isLive, isStart}
 use Rattle.rules.specs.Inspect.{isHit, hits}

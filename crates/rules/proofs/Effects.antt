@@ -16,16 +16,16 @@ use Rattle.bitmap.specs.Bitmap.{bit}
 use Rattle.bitmap.proofs.Slot.{bit-past}
 use Rattle.bitmap.proofs.Change.{Turned, set-turns, clear-turns}
 use Rattle.writing.specs.Overwrite.{overwrite}
-use Rattle.rules.specs.Metadata.{withGenerator, countOf, withCount, canaryOf, bitmapOf}
+use Rattle.metadata.specs.Metadata.{withGenerator, countOf, withCount, canaryOf, bitmapOf}
 use Rattle.rules.specs.Open.{Setup, fresh}
 use Rattle.rules.specs.Outcome.{allocated, freed, reply, metadataAfter}
 use Rattle.rules.specs.Allocate.{allocate}
 use Rattle.rules.specs.Object.{free}
 use Rattle.writing.proofs.Writing.{overwrite-length}
-use Rattle.rules.proofs.Metadata.{generator-length, generator-counts, generator-canary, generator-bitmaps}
-use Rattle.rules.proofs.Metadata.{count-length, count-written, count-other, count-bitmaps, count-canary}
-use Rattle.rules.proofs.Metadata.{canary-length, canary-counts, canary-bitmaps, bitmap-canary}
-use Rattle.rules.proofs.Metadata.{bitmap-within, bitmap-length, bitmap-written, bitmap-other, bitmap-counts}
+use Rattle.metadata.proofs.Stored.{generator-length, generator-counts, generator-canary, generator-bitmaps}
+use Rattle.metadata.proofs.Stored.{count-length, count-written, count-other, count-bitmaps, count-canary}
+use Rattle.metadata.proofs.Stored.{canary-length, canary-counts, canary-bitmaps, bitmap-canary}
+use Rattle.metadata.proofs.Stored.{bitmap-within, bitmap-length, bitmap-written, bitmap-other, bitmap-counts}
 use Rattle.writing.proofs.Parts.{zeros}
 use Rattle.rules.proofs.Finding.{allocate-finds, free-finds}
 

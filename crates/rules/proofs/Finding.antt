@@ -14,7 +14,7 @@ use Rattle.geometry.specs.Layout.{classes, classOf, slots, heapLength, slotStar
 use Rattle.bitmap.specs.Bitmap.{bit}
 use Rattle.bitmap.proofs.Slot.{Clear, is-set}
 use Rattle.probe.proofs.Chosen.{probe-clear}
-use Rattle.rules.specs.Metadata.{generatorOf, countOf, bitmapOf}
+use Rattle.metadata.specs.Metadata.{generatorOf, countOf, bitmapOf}
 use Rattle.probe.specs.Probe.{draws}
 use Rattle.rules.specs.Allocate.{foundIn, allocate}
 use Rattle.geometry.specs.declared.Location.{Location}

@@ -17,12 +17,12 @@ use Rattle.answer.specs.declared.Refusal.{Refusal}
 use Rattle.answer.specs.declared.Refusal.the-variants.{ListTooShort}
 use Rattle.answer.specs.Reply.{numberOf}
 use Rattle.answer.proofs.Numbers.{refusal-number}
-use Rattle.rules.specs.declared.Judged.{Judged}
-use Rattle.rules.specs.declared.Judged.the-variants.{Laid, Unfit}
-use Rattle.rules.specs.Judge.{admit}
+use Rattle.judge.specs.declared.Judged.{Judged}
+use Rattle.judge.specs.declared.Judged.the-variants.{Laid, Unfit}
+use Rattle.judge.specs.Judge.{admit}
 use Rattle.rules.specs.Inspect.{hits, Inspection, unlisted, listed, listedWhole, inspection}
 use Rattle.rules.specs.Inspected.{offsetsIn, Damaged, AllDamaged, ClearAlike}
-use Rattle.rules.proofs.Serving.{admit-fits}
+use Rattle.judge.proofs.Judging.{admit-fits}
 use Rattle.rules.proofs.Damage.{slot-at, hits-damaged, damaged-same}
 
 module _ (h m list : List ℕ) where

@@ -1,7 +1,6 @@
 -- The laws and theorems on openings, single requests and inspections, and examples.
 pub mod Accepting
 pub mod Clipping
-pub mod Metadata
 pub mod Space
 pub mod Finding
 pub mod Outcomes

@@ -9,9 +9,9 @@ use Rattle.geometry.specs.declared.Layout.{Layout}
 use Rattle.answer.specs.declared.Refusal.{Refusal}
 use Rattle.answer.specs.declared.Refusal.the-variants.{UnusableSeed}
 use Rattle.request.specs.Parse.{parse}
-use Rattle.rules.specs.declared.Judged.{Judged}
-use Rattle.rules.specs.declared.Judged.the-variants.{Laid, Unfit}
-use Rattle.rules.specs.Judge.{lengths, admit}
+use Rattle.judge.specs.declared.Judged.{Judged}
+use Rattle.judge.specs.declared.Judged.the-variants.{Laid, Unfit}
+use Rattle.judge.specs.Judge.{lengths, admit}
 use Rattle.rules.specs.Open.{Setup}
 use Rattle.rules.specs.Outcome.{Outcome, refused, allocated, freed, told, shown}
 use Rattle.rules.specs.Serve.{Lent, act}

@@ -13,9 +13,9 @@ use Rattle.geometry.specs.declared.Layout.{Layout}
 use Rattle.answer.specs.declared.Refusal.the-variants.{UnusableSeed}
 use Rattle.answer.specs.Reply.{Reply, refusedBy}
 use Rattle.answer.proofs.Numbers.{refusal-number}
-use Rattle.rules.specs.declared.Judged.{Judged}
-use Rattle.rules.specs.declared.Judged.the-variants.{Laid, Unfit}
-use Rattle.rules.specs.Judge.{lengths}
+use Rattle.judge.specs.declared.Judged.{Judged}
+use Rattle.judge.specs.declared.Judged.the-variants.{Laid, Unfit}
+use Rattle.judge.specs.Judge.{lengths}
 use Rattle.rules.specs.Open.{Setup}
 use Rattle.rules.specs.Call.{opening}
 use Rattle.rules.proofs.Serving.{opening-unfit, opening-unusable, opening-served}

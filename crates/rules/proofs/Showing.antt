@@ -16,11 +16,11 @@ use Rattle.request.specs.declared.Parsed.the-variants.{Whole}
 use Rattle.request.specs.Parse.{requestBytes}
 use Rattle.request.proofs.Parsing.{encoded}
 use Rattle.view.specs.declared.View.{View}
-use Rattle.rules.specs.declared.Judged.{Judged}
-use Rattle.rules.specs.declared.Judged.the-variants.{Laid, Unfit}
+use Rattle.judge.specs.declared.Judged.{Judged}
+use Rattle.judge.specs.declared.Judged.the-variants.{Laid, Unfit}
 use Rattle.view.specs.View.{Lies}
 use Rattle.view.proofs.Lying.{room-lies}
-use Rattle.rules.specs.Judge.{admit}
+use Rattle.judge.specs.Judge.{admit}
 use Rattle.rules.specs.Outcome.{Outcome, shown, reply, viewOf}
 use Rattle.rules.specs.Object.{space}
 use Rattle.rules.specs.Read.{read}
@@ -28,7 +28,8 @@ use Rattle.rules.specs.Serve.{lentWith}
 use Rattle.rules.specs.Call.{Call, calledBy, unserved, serving, serve, reading}
 use Rattle.rules.proofs.Space.{space-within}
 use Rattle.rules.proofs.Outcomes.{Comes, refuses, serves, read-comes}
-use Rattle.rules.proofs.Serving.{admit-fits, serving-unfit, serving-acts}
+use Rattle.judge.proofs.Judging.{admit-fits}
+use Rattle.rules.proofs.Serving.{serving-unfit, serving-acts}
 
 module _ (G : Layout) (m : List ℕ) (offset count pageBytes : ℕ) where
   read-lies : Lies (heapLength G) pageBytes (viewOf (read G m offset count pageBytes))

@@ -9,7 +9,7 @@ use Rattle.geometry.specs.Layout.{heapLength, slots, locate}
 use Rattle.geometry.proofs.Geometry.{slot-size-le}
 use Rattle.geometry.proofs.Slots.{slot-ends}
 use Rattle.bitmap.proofs.Slot.{is-set}
-use Rattle.rules.specs.Metadata.{bitmapOf}
+use Rattle.metadata.specs.Metadata.{bitmapOf}
 use Rattle.rules.specs.Object.{isLive, space}
 
 module _ (G : Layout) (m : List ℕ) (offset : ℕ) where

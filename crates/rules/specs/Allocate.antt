@@ -8,7 +8,7 @@ use Rattle.answer.specs.declared.Refusal.the-variants.{UnsupportedSize, ClassTo
 use Rattle.answer.specs.Checks.{_when_, checked}
 use Rattle.probe.specs.declared.Found.{Found}
 use Rattle.probe.specs.Probe.{probe, draws}
-use Rattle.rules.specs.Metadata.{generatorOf, countOf, bitmapOf}
+use Rattle.metadata.specs.Metadata.{generatorOf, countOf, bitmapOf}
 use Rattle.rules.specs.Outcome.{Outcome, refused, allocated}
 
 -- what the draws find in a class, and the slot taken

@@ -14,7 +14,7 @@ use Rattle.answer.specs.declared.Refusal.the-variants.{UnusableSeed}
 use Rattle.answer.specs.Reply.{Reply, served, refusedBy}
 use Rattle.answer.specs.Checks.{_when_, checked}
 use Rattle.view.specs.declared.View.{View}
-use Rattle.rules.specs.Judge.{lengths, onceLaid, admit}
+use Rattle.judge.specs.Judge.{lengths, onceLaid, admit}
 use Rattle.rules.specs.Open.{Setup, fresh}
 use Rattle.rules.specs.Canary.{filledHeap}
 use Rattle.view.specs.View.{noView}

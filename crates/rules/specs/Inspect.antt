@@ -13,8 +13,8 @@ use Rattle.answer.specs.declared.Refusal.{Refusal}
 use Rattle.answer.specs.declared.Refusal.the-variants.{ListTooShort}
 use Rattle.answer.specs.Reply.{Reply, served, refusedBy}
 use Rattle.answer.specs.Checks.{_when_, checked}
-use Rattle.rules.specs.Metadata.{canaryOf}
-use Rattle.rules.specs.Judge.{onceLaid, admit}
+use Rattle.metadata.specs.Metadata.{canaryOf}
+use Rattle.judge.specs.Judge.{onceLaid, admit}
 use Rattle.rules.specs.Canary.{hasDamage}
 use Rattle.rules.specs.Object.{isLive, isStart}
 

@@ -1,5 +1,3 @@
-pub mod Metadata
-pub mod Judge
 pub mod Open
 pub mod Canary
 pub mod Outcome

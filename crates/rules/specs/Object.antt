@@ -13,7 +13,7 @@ use Rattle.answer.specs.declared.Refusal.the-variants.{OutOfRange, NotASlotStar
 use Rattle.answer.specs.Checks.{Check, _when_, checked}
 use Rattle.request.specs.declared.Kind.{Kind}
 use Rattle.request.specs.declared.Kind.the-variants.{Bytes, String, Padded}
-use Rattle.rules.specs.Metadata.{countOf, bitmapOf}
+use Rattle.metadata.specs.Metadata.{countOf, bitmapOf}
 use Rattle.rules.specs.Outcome.{Outcome, refused, freed, told}
 
 abbrev pub isLive : Layout → List ℕ → Location → Bool

@@ -5,7 +5,7 @@ use lib.ListN.{replicate}
 use Rattle.mwc.specs.declared.Generator.{Generator}
 use Rattle.geometry.specs.declared.Layout.{Layout}
 use Rattle.geometry.specs.Layout.{metadataLength}
-use Rattle.rules.specs.Metadata.{withGenerator, withCanary}
+use Rattle.metadata.specs.Metadata.{withGenerator, withCanary}
 
 -- what an opening is given
 pub record Setup : Type 0 where

@@ -10,7 +10,7 @@ use Rattle.answer.specs.declared.Refusal.{Refusal}
 use Rattle.answer.specs.Reply.{Reply, served, refusedBy}
 use Rattle.writing.specs.Overwrite.{overwrite}
 use Rattle.view.specs.declared.View.{View}
-use Rattle.rules.specs.Metadata.{withGenerator, countOf, withCount, canaryOf, bitmapOf}
+use Rattle.metadata.specs.Metadata.{withGenerator, countOf, withCount, canaryOf, bitmapOf}
 use Rattle.rules.specs.Canary.{filled}
 use Rattle.view.specs.View.{noView}
 

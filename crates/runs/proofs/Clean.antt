@@ -20,9 +20,9 @@ use Rattle.request.specs.declared.Parsed.{Parsed}
 use Rattle.request.specs.declared.Parsed.the-variants.{Whole, Malformed}
 use Rattle.answer.specs.Reply.{served}
 use Rattle.bitmap.specs.Bitmap.{isSet}
-use Rattle.rules.specs.declared.Judged.the-variants.{Laid}
-use Rattle.rules.specs.Judge.{admit}
-use Rattle.rules.specs.Metadata.{withGenerator, canaryOf, bitmapOf}
+use Rattle.judge.specs.declared.Judged.the-variants.{Laid}
+use Rattle.judge.specs.Judge.{admit}
+use Rattle.metadata.specs.Metadata.{withGenerator, canaryOf, bitmapOf}
 use Rattle.rules.specs.Canary.{canaryByte, filledByte, filledHeap}
 use Rattle.rules.specs.Open.{Setup, fresh}
 use Rattle.rules.specs.Outcome.{Outcome, freed, metadataAfter, heapAfter}
@@ -36,7 +36,7 @@ use Rattle.runs.specs.Undisturbed.{undisturbed}
 use Rattle.rules.proofs.Effects.{liveBit, Valid, fresh-valid, Changed, allocate-takes, allocate-changes, free-ends, free-changes}
 use Rattle.rules.proofs.Outcomes.{Comes, refuses, serves, allocate-comes, free-comes, remaining-comes, copy-comes, read-comes}
 use Rattle.runs.proofs.Results.{result, result-valid, valid-admits, valid-acts}
-use Rattle.rules.proofs.Metadata.{generator-length, canary-written}
+use Rattle.metadata.proofs.Stored.{generator-length, canary-written}
 use Rattle.rules.proofs.Damage.{clear-bit, bit-clear, hits-damaged}
 use Rattle.rules.proofs.Inspecting.{inspection-laid}
 use Rattle.runs.proofs.Undisturbed.{undisturbed-keeps}

@@ -17,15 +17,15 @@ use Rattle.bitmap.specs.Bitmap.{isSet, setSlot, clearSlot}
 use Rattle.writing.specs.Overwrite.{overwrite}
 use Rattle.request.specs.declared.Parsed.{Parsed}
 use Rattle.request.specs.Parse.{parse}
-use Rattle.rules.specs.Metadata.{generatorOf, withGenerator, countOf, withCount, bitmapOf}
+use Rattle.metadata.specs.Metadata.{generatorOf, withGenerator, countOf, withCount, bitmapOf}
 use Rattle.rules.specs.Open.{Setup, fresh}
 use Rattle.rules.specs.Outcome.{Outcome, metadataAfter}
 use Rattle.probe.specs.Probe.{probe, draws}
 use Rattle.rules.specs.Allocate.{foundIn}
 use Rattle.rules.specs.Call.{opening}
 use Rattle.runs.specs.Run.{Entry, HeapsOfLength, stepOf, left}
-use Rattle.rules.proofs.Metadata.{generator-length, generator-written, count-generator, canary-generator}
-use Rattle.rules.proofs.Metadata.{bitmap-generator}
+use Rattle.metadata.proofs.Stored.{generator-length, generator-written, count-generator, canary-generator}
+use Rattle.metadata.proofs.Stored.{bitmap-generator}
 use Rattle.rules.proofs.Serving.{has-layout, opened-fresh}
 use Rattle.rules.proofs.Seeding.{opened-never}
 use Rattle.rules.proofs.Effects.{Valid, fresh-valid, allocate-changes}

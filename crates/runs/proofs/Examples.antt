@@ -15,7 +15,7 @@ use Rattle.search.proofs.First.{first-before}
 use Rattle.geometry.specs.declared.Layout.{Layout}
 use Rattle.geometry.specs.Layout.{layoutOf, classes, slotSize, slots, slotStart, header, bitmapAt, metadataLength}
 use Rattle.bitmap.specs.Bitmap.{countSet}
-use Rattle.rules.specs.Metadata.{countAt, countOf, bitmapOf}
+use Rattle.metadata.specs.Metadata.{countAt, countOf, bitmapOf}
 use Rattle.rules.specs.Open.{Setup, fresh}
 use Rattle.runs.specs.Live.{Object, holding, ofClass, Sound, Counted}
 use Rattle.runs.specs.Wordings.{At, inClass, Disjoint}

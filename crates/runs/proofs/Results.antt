@@ -14,8 +14,8 @@ use Rattle.request.specs.declared.Request.the-variants.{Allocate, Free, Remaini
 use Rattle.request.specs.declared.Parsed.{Parsed}
 use Rattle.request.specs.declared.Parsed.the-variants.{Whole, Malformed}
 use Rattle.answer.specs.declared.Refusal.{Refusal}
-use Rattle.rules.specs.declared.Judged.the-variants.{Laid}
-use Rattle.rules.specs.Judge.{admit}
+use Rattle.judge.specs.declared.Judged.the-variants.{Laid}
+use Rattle.judge.specs.Judge.{admit}
 use Rattle.rules.specs.Outcome.{Outcome, refused, allocated, freed, reply, metadataAfter}
 use Rattle.rules.specs.Allocate.{taken}
 use Rattle.rules.specs.Serve.{Lent, act}
@@ -23,7 +23,8 @@ use Rattle.rules.specs.Call.{calledBy, serving}
 use Rattle.runs.specs.Run.{Step, Event}
 use Rattle.runs.specs.Pair.{Measures}
 use Rattle.rules.proofs.Outcomes.{Comes, refuses, serves, allocate-comes, free-comes, remaining-comes, copy-comes, read-comes}
-use Rattle.rules.proofs.Serving.{right-lengths, none-over, admit-laid, serving-acts}
+use Rattle.judge.proofs.Judging.{right-lengths, none-over, admit-laid}
+use Rattle.rules.proofs.Serving.{serving-acts}
 use Rattle.rules.proofs.Effects.{liveBit, Valid, Takes, Ends, Changed, allocate-takes, allocate-changes, free-ends, free-changes, changed-valid}
 
 -- ---- a request's outcome

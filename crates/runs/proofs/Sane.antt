@@ -21,7 +21,7 @@ use Rattle.answer.specs.declared.Refusal.{Refusal}
 use Rattle.answer.specs.declared.Refusal.the-variants.{UnsupportedSize, ClassTooSmall, ClassAtCapacity, OutOfRange}
 use Rattle.answer.specs.declared.Refusal.the-variants.{NotASlotStart, NotAllocated, CorruptMetadata}
 use Rattle.answer.specs.Reply.{numberOf}
-use Rattle.rules.specs.Metadata.{generatorOf, countOf, bitmapOf}
+use Rattle.metadata.specs.Metadata.{generatorOf, countOf, bitmapOf}
 use Rattle.rules.specs.Outcome.{Outcome, refused, reply}
 use Rattle.probe.specs.Probe.{draws}
 use Rattle.rules.specs.Allocate.{foundIn, allocate}

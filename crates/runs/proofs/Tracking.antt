@@ -16,7 +16,7 @@ use Rattle.request.specs.declared.Request.the-variants.{Allocate, Free, Remaini
 use Rattle.request.specs.declared.Parsed.{Parsed}
 use Rattle.request.specs.declared.Parsed.the-variants.{Whole}
 use Rattle.answer.specs.Reply.{numberOf}
-use Rattle.rules.specs.Metadata.{countOf, bitmapOf}
+use Rattle.metadata.specs.Metadata.{countOf, bitmapOf}
 use Rattle.rules.specs.Open.{Setup, fresh}
 use Rattle.rules.specs.Outcome.{Outcome}
 use Rattle.runs.specs.Pair.{Measures}

@@ -17,9 +17,9 @@ use Rattle.geometry.specs.Layout.{classOf}
 use Rattle.answer.specs.declared.Refusal.the-variants.{MalformedRequest}
 use Rattle.answer.proofs.Numbers.{refusal-number}
 use Rattle.request.specs.Parse.{parse}
-use Rattle.rules.specs.declared.Judged.{Judged}
-use Rattle.rules.specs.declared.Judged.the-variants.{Laid, Unfit}
-use Rattle.rules.specs.Judge.{admit}
+use Rattle.judge.specs.declared.Judged.{Judged}
+use Rattle.judge.specs.declared.Judged.the-variants.{Laid, Unfit}
+use Rattle.judge.specs.Judge.{admit}
 use Rattle.rules.specs.Serve.{Lent}
 use Rattle.rules.specs.Call.{serve}
 use Rattle.runs.specs.Run.{Entry, Event, history}

@@ -9,8 +9,8 @@ use Rattle.geometry.specs.Layout.{classes, heapLength, layoutOf, slotSize, coun
 use Rattle.bitmap.specs.Bitmap.{putByte}
 use Rattle.request.specs.Parse.{parse, requestBytes}
 use Rattle.answer.specs.Reply.{served}
-use Rattle.rules.specs.Metadata.{withGenerator}
-use Rattle.rules.specs.Judge.{lengths, admit}
+use Rattle.metadata.specs.Metadata.{withGenerator}
+use Rattle.judge.specs.Judge.{lengths, admit}
 use Rattle.rules.specs.Object.{space, copy}
 use Rattle.rules.specs.Serve.{Lent, lent, lentWith}
 use Rattle.probe.specs.Probe.{probe}

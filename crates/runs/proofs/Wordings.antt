@@ -19,7 +19,7 @@ use Rattle.geometry.proofs.Slots.{slot-size-pos}
 use Rattle.bitmap.specs.Bitmap.{bit, countSet}
 use Rattle.answer.specs.declared.Refusal.{Refusal}
 use Rattle.answer.specs.Reply.{numberOf}
-use Rattle.rules.specs.Metadata.{bitmapOf}
+use Rattle.metadata.specs.Metadata.{bitmapOf}
 use Rattle.runs.specs.Run.{Entry, HeapsOfLength, Event}
 use Rattle.runs.specs.Pair.{Pair, PairOff}
 use Rattle.runs.specs.Live.{Object, hasByte, holding, ofClass, Sound, Counted, Never}

@@ -12,7 +12,7 @@ use Rattle.geometry.specs.Layout.{classes, classOf, slotSize, slots}
 use Rattle.bitmap.specs.Bitmap.{countSet}
 use Rattle.answer.specs.declared.Refusal.{Refusal}
 use Rattle.answer.specs.Reply.{numberOf}
-use Rattle.rules.specs.Metadata.{countOf, bitmapOf}
+use Rattle.metadata.specs.Metadata.{countOf, bitmapOf}
 use Rattle.runs.specs.Run.{Event}
 
 -- an object takes as many bytes from its start on as a slot of its class has

@@ -17,7 +17,7 @@ use Rattle.geometry.specs.declared.Layout.{Layout}
 use Rattle.geometry.specs.Layout.{classes, classOf, slotSize, slots, bitmapAt}
 use Rattle.answer.specs.declared.Refusal.{Refusal}
 use Rattle.answer.specs.Reply.{numberOf}
-use Rattle.rules.specs.Metadata.{countOf}
+use Rattle.metadata.specs.Metadata.{countOf}
 use Rattle.runs.specs.Run.{Entry, Event}
 use Rattle.runs.specs.Pair.{Served, Pair}
 use Rattle.runs.specs.Live.{Object}

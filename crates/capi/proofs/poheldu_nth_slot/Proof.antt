@@ -1,7 +1,7 @@
 -- `capi::poheldu_nth_slot` meets its contract.
 use borrow.Author.Needs.{needs}
 use mathlib.Core.Path.{sym, _∙_}
-use Rattle.rules.proofs.Serving.{laid-fits}
+use Rattle.judge.proofs.Judging.{laid-fits}
 use Rattle.capi.proofs.poheldu_nth_slot.Statement.{statement}
 use Rattle.capi.proofs.poheldu_nth_slot.Tie as tie
 

@@ -3,7 +3,8 @@ use borrow.Author.Needs.{needs}
 use mathlib.Core.Path.{refl, sym, _∙_}
 use Rattle.judge.proofs.Admitting.{has-fields}
 use Rattle.rules.specs.Open.{setup}
-use Rattle.rules.proofs.Serving.{laid-fits, opening-unfit, opening-unusable, opening-served}
+use Rattle.judge.proofs.Judging.{laid-fits}
+use Rattle.rules.proofs.Serving.{opening-unfit, opening-unusable, opening-served}
 use Rattle.heap.proofs.open.Statement.{statement}
 use Rattle.heap.proofs.open.Tie as tie
 

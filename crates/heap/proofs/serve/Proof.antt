@@ -1,7 +1,8 @@
 -- `heap::serve` meets its contract, by what it is admitted by.
 use borrow.Author.Needs.{needs}
 use mathlib.Core.Path.{refl, sym, _∙_}
-use Rattle.rules.proofs.Serving.{admit-fits, serving-unfit, serving-acts}
+use Rattle.judge.proofs.Judging.{admit-fits}
+use Rattle.rules.proofs.Serving.{serving-unfit, serving-acts}
 use Rattle.heap.proofs.serve.Statement.{statement}
 use Rattle.heap.proofs.serve.Tie as tie
 

@@ -1,7 +1,7 @@
 -- `inspect::inspect` meets its contract, by what it is admitted by.
 use borrow.Author.Needs.{needs}
 use mathlib.Core.Path.{refl, sym, _∙_}
-use Rattle.rules.proofs.Serving.{admit-fits}
+use Rattle.judge.proofs.Judging.{admit-fits}
 use Rattle.rules.proofs.Inspecting.{inspection-unfit, inspection-laid}
 use Rattle.inspect.proofs.inspect.Statement.{statement}
 use Rattle.inspect.proofs.inspect.Tie as tie

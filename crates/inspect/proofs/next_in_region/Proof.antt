@@ -7,7 +7,7 @@ use native.Mathlib.Omega.{arith}
 use lib.ListN.{length}
 use Rattle.search.specs.First.{first}
 use Rattle.rules.specs.Inspect.{isHit}
-use Rattle.rules.proofs.Metadata.{part-rises, part-ends, part-bitmap}
+use Rattle.metadata.proofs.Stored.{part-rises, part-ends, part-bitmap}
 use Rattle.inspect.proofs.Region.{Around, around, slots-lie, found-hit, found-none}
 use Rattle.inspect.proofs.next_in_region.Statement.{statement}
 use Rattle.inspect.proofs.next_in_region.Tie as tie

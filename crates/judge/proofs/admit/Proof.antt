@@ -1,7 +1,7 @@
 -- `judge::admit` meets its contract: a law of admission for each return.
 use borrow.Author.Needs.{needs}
 use mathlib.Core.Path.{sym, _∙_}
-use Rattle.rules.proofs.Serving.{laid-fits, admit-unfit, admit-over, admit-laid}
+use Rattle.judge.proofs.Judging.{laid-fits, admit-unfit, admit-over, admit-laid}
 use Rattle.judge.proofs.Admitting.{has-fields}
 use Rattle.judge.proofs.admit.Statement.{statement}
 use Rattle.judge.proofs.admit.Tie as tie

@@ -2,7 +2,7 @@
 use mathlib.Core.Path.{_≡_, sym}
 use borrow.Author.Needs.{needs}
 use Rattle.geometry.specs.Layout.{regionOf}
-use Rattle.rules.proofs.Serving.{no-heap, other-length, right-lengths}
+use Rattle.judge.proofs.Judging.{no-heap, other-length, right-lengths}
 use Rattle.judge.proofs.lengths.Statement.{statement}
 use Rattle.judge.proofs.lengths.Tie as tie
 

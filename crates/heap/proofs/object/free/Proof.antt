@@ -14,7 +14,7 @@ use Rattle.geometry.proofs.Slots.{slots-class}
 use Rattle.bitmap.specs.Bitmap.{clearSlot}
 use Rattle.answer.specs.declared.Refusal.the-variants.{NotAllocated, CorruptMetadata}
 use Rattle.heap.specs.Relied.{Within}
-use Rattle.rules.specs.Metadata.{countOf}
+use Rattle.metadata.specs.Metadata.{countOf}
 use Rattle.rules.specs.Outcome.{refused, freed}
 use Rattle.rules.specs.Object.{free}
 use Rattle.judge.proofs.Admitting.{has-fields}

@@ -15,7 +15,7 @@ use Rattle.words.specs.Word.{wordOf, wordAt, putWord}
 use Rattle.words.proofs.Stored.{put-length, put-after, word-same, word-stored, word-before, word-after}
 use Rattle.writing.specs.Overwrite.{overwrite}
 use Rattle.writing.proofs.Parts.{part-here, part-before, part-after}
-use Rattle.rules.specs.Metadata.{generatorOf, withGenerator, countAt, countOf, withCount, canaryOf, withCanary, bitmapOf}
+use Rattle.metadata.specs.Metadata.{generatorOf, withGenerator, countAt, countOf, withCount, canaryOf, withCanary, bitmapOf}
 
 -- ---- the fields
 

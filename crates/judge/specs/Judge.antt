@@ -11,9 +11,9 @@ use Rattle.geometry.specs.Layout.{classes, longestRegion, layoutOf, heapLength,
 use Rattle.answer.specs.declared.Refusal.{Refusal}
 use Rattle.answer.specs.declared.Refusal.the-variants.{HeapLength, MetadataLength, CorruptMetadata}
 use Rattle.answer.specs.Checks.{_when_, checked}
-use Rattle.rules.specs.declared.Judged.{Judged}
-use Rattle.rules.specs.declared.Judged.the-variants.{Laid, Unfit}
-use Rattle.rules.specs.Metadata.{countOf}
+use Rattle.judge.specs.declared.Judged.{Judged}
+use Rattle.judge.specs.declared.Judged.the-variants.{Laid, Unfit}
+use Rattle.metadata.specs.Metadata.{countOf}
 
 -- ---- the lengths
 

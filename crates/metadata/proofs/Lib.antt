@@ -1,0 +1,2 @@
+-- Laws of the metadata's fields and bitmaps.
+pub mod Stored
