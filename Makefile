@@ -6,7 +6,7 @@
 # make soak     the differential test for SOAK_CALLS (100000000) calls, from a seed that it prints; SEED=N repeats one
 # make cases    writes the input of conformance (crates/conformance/stdin) anew, from the cases of tests/conformance/*.txt
 # make expected writes what benchrun and conformance must print (crates/*/stdout) anew, by the second implementation, after make cases
-# make table    writes the table of classes (crates/geometry/src/table.rt) anew by its rule, programs/table
+# make table    writes the table of classes (crates/sizes/src/table.rt) anew by its rule, programs/table
 # make bench    ratios against the second implementation, memcpy, memset, memcmp and malloc
 # make instructions  how many instructions a request takes; wants valgrind
 .PHONY: run programs test lib fuzz fuzz-tools soak cases expected table bench instructions
@@ -68,7 +68,7 @@ expected: cases
 	target/tests/release/conformance < crates/conformance/stdin > crates/conformance/stdout
 
 table:
-	@mkdir -p target && programs/table > target/table.rt && cp target/table.rt crates/geometry/src/table.rt
+	@mkdir -p target && programs/table > target/table.rt && cp target/table.rt crates/sizes/src/table.rt
 
 bench: lib
 	@programs/wanted cargo

@@ -1,5 +1,5 @@
--- Laws of the layout over the class and the slot size as variables. What a slot size is, 8 · 2 ^ c, only `slot-size-of`
--- and `slot-size-le` see.
+-- Laws of the layout over the class and the slot size as variables. That slot sizes are the usual ones, only the laws
+-- that unfold `slotSize` see.
 use Prim.Native.Nat.{ℕ, suc, min, zero-le, _+_, _-_, _*_, _%_, _^_, _≤_, _<_}
 use mathlib.Core.Path.{_≡_, refl, sym, ap, _∙_}
 use mathlib.Core.Bool.{Bool, true, false, cond}
@@ -9,9 +9,10 @@ use native.Mathlib.Numerals.{add-one}
 use native.Mathlib.Omega.{arith}
 use lib.Dec.{leb, ltb, eqb}
 use lib.Pow.{pow-mono}
-use borrow.Author.Tests.{lt-ltb, le-ltb, eq-eqb, ne-eqb, eqb-true, ltb-true, leb-true, leb-false}
+use borrow.Author.Tests.{lt-ltb, le-ltb, eq-eqb, ne-eqb, eqb-true, ltb-true}
 use Rattle.search.specs.First.{first}
-use Rattle.search.proofs.First.{first-found, first-past, first-none, first-range, first-passes, first-before}
+use Rattle.search.proofs.First.{first-found, first-past, first-none, first-range, first-passes}
+use Rattle.sizes.proofs.Sizes.{usual-size-of, usual-size-past, usual-size-le, usual-class-none}
 use Rattle.geometry.specs.declared.Layout.{Layout}
 use Rattle.geometry.specs.Layout.{classes, longestRegion, regionOf, slotSize, longestSlot, classOf, header, bitmapAt, bitmapLength}
 
@@ -55,11 +56,11 @@ laid n = go (ltb e 21) refl
 
 pub slot-size-of : (G : Layout) {c : ℕ} → c < classes → slotSize G c ≡ 8 * 2 ^ c
 unfolding slotSize
-slot-size-of G {c} h = rw (lt-ltb c classes h, slotSize)
+slot-size-of G h = usual-size-of h
 
 pub slot-size-past : (G : Layout) {c : ℕ} → classes ≤ c → slotSize G c ≡ 0
 unfolding slotSize
-slot-size-past G {c} h = rw (le-ltb c classes h, slotSize)
+slot-size-past G h = usual-size-past h
 
 -- a slot has bytes, and is whole words of four bytes long
 pub slot-size-some : (G : Layout) {c : ℕ} → c < classes → 0 < slotSize G c
@@ -73,39 +74,20 @@ slot-size-whole G c = elim (decLt c classes) [
 
 -- no class's slots are longer than the last one's
 pub slot-size-le : (G : Layout) (c : ℕ) → slotSize G c ≤ longestSlot
-slot-size-le G c = elim (decLt c classes) [
-  | yes h ↦ rw (slot-size-of G h) (omega (arith, pow-mono {i = c} {j = 11} (omega arith)))
-  | no h ↦ rw (slot-size-past G {c = c} (omega arith)) (omega arith)
-]
+unfolding slotSize
+slot-size-le G = usual-size-le
 
 -- ---- the class of a size
 
-abbrev pub holds : Layout → ℕ → ℕ → Bool
-holds G size c = leb size (slotSize G c)
-
 -- no class is past the one after the last
 pub class-le : (G : Layout) (size : ℕ) → classOf G size ≤ classes
-class-le G size = first-range (holds G size) 0 classes .1
+class-le G size = first-range (λ c. leb size (slotSize G c)) 0 classes .1
 
 -- no class holds a size that is longer than any slot, and only such a size is held by none
 pub class-none : (G : Layout) (size : ℕ)
     → (classOf G size ≡ classes → longestSlot < size) × (longestSlot < size → classOf G size ≡ classes)
-class-none G size = (longer, none)
-  where
-    longer : classOf G size ≡ classes → longestSlot < size
-    longer e =
-        let last : ℕ = classes - 1 in
-        let past : last < classOf G size = omega arith in
-        let over = leb-false size (slotSize G last) (first-before (holds G size) 0 classes last (omega arith) past) in
-        rw (slot-size-of G {c = last} (omega arith)) at over
-
-    none : longestSlot < size → classOf G size ≡ classes
-    none h = elim (decLt (classOf G size) classes) [
-      | yes l ↦
-          let held = leb-true size (slotSize G (classOf G size)) (first-passes (holds G size) 0 classes l) in
-          absurd (omega (arith, slot-size-le G (classOf G size)))
-      | no l ↦ omega (arith, class-le G size)
-    ]
+unfolding slotSize
+class-none G = usual-class-none
 
 -- ---- bitmaps
 

@@ -1,6 +1,5 @@
--- Laws of regions, classes, slots and bitmaps, and of the table of classes.
+-- Laws of regions, classes, slots and bitmaps.
 pub mod Geometry
 pub mod Slots
 pub mod Doubling
 pub mod Halving
-pub mod Steps

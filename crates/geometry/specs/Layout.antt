@@ -2,17 +2,15 @@
 -- class's bitmap.
 -- No rule here needs a slot size or a region length to be a power of two.
 use Prim.Native.Nat.{ℕ, zero, suc, _+_, _*_, _/_, _%_, _^_}
-use mathlib.Core.Bool.{true, false, cond}
+use mathlib.Core.Bool.{cond}
 use lib.Dec.{leb, ltb, eqb}
 use Rattle.search.specs.First.{first}
+use Rattle.sizes.specs.Sizes.{usualSize}
+pub use Rattle.sizes.specs.Sizes.{classes, longestSlot}
 use Rattle.geometry.specs.declared.Layout.{Layout}
 use Rattle.geometry.specs.declared.Location.{Location}
 use Rattle.geometry.specs.declared.Part.{Part}
 use Rattle.geometry.specs.declared.Plan.{Plan}
-
--- size classes, and regions
-abbrev pub classes : ℕ
-classes = 12
 
 -- ---- the heap
 
@@ -35,11 +33,7 @@ heapLength G = classes * G .region
 
 -- the bytes of a slot; 0 past the last class
 unfoldable pub slotSize : Layout → ℕ → ℕ
-slotSize G c = elim (ltb c classes) [ true ↦ 8 * 2 ^ c | false ↦ 0 ]
-
--- the bytes of a slot of the last class, the longest
-abbrev pub longestSlot : ℕ
-longestSlot = 16_384
+slotSize G c = usualSize c
 
 -- the paper's N
 abbrev pub slots : Layout → ℕ → ℕ

@@ -1,30 +1,20 @@
 // Where things lie: the regions and slots of a heap, and the bitmaps of its metadata.
-mod table;
-
 use numbers::least;
 use numbers::power_quotient;
 use numbers::power_remainder;
 use numbers::quotient;
 use numbers::remainder;
 use numbers::wide;
-use table::CLASS_OF_STEP;
-use table::STEPS;
+use sizes::usual_class;
+use sizes::usual_size;
 ghost use mathlib.Core.Path.{_≡_};
-ghost use Prim.Native.Nat.{_+_, _*_, _%_, _^_, _<_, _≤_};
-ghost use Rattle.search.specs.Tabulate.{tabulate};
+ghost use Prim.Native.Nat.{_+_, _*_, _^_, _<_, _≤_};
 ghost use Rattle.geometry.specs.Layout.{classes, slotSize, slots, classOf, locate};
 ghost use Rattle.geometry.specs.Layout.{header, bitmapLength, bitmapAt, partOf, planOf};
 
-pub const CLASSES: usize = 12;
+pub const CLASSES: usize = sizes::CLASSES;
 
 const LAST_CLASS: usize = CLASSES - 1;
-
-// The steps of eight bytes up to which a size is small, medium or large.
-const SMALL: usize = 32;
-
-const MEDIUM: usize = 256;
-
-const LARGE: usize = 1024;
 
 // Where the metadata keep the live counts, a word of four bytes for each class, and then the canary.
 pub const COUNTS: usize = 8;
@@ -72,7 +62,7 @@ impl Layout {
     pub fn slot_size(self, class: usize) -> usize
         ensures { λ r. ⌜ r ≡ slotSize self class ⌝ }
     {
-        if class < CLASSES { 8 << class } else { 0 }
+        usual_size(class)
     }
 
     pub fn slots(self, class: usize) -> usize
@@ -81,68 +71,11 @@ impl Layout {
         quotient(wide(self.region), self.slot_size(class))
     }
 
-    // The classes of one step of eight bytes, of two, and so on up to the longest slot.
-    fn table(self) -> [u8; STEPS]
-        ensures { λ r. ⌜ r ≡ tabulate (λ i. classOf self (8 * (i + 1))) 0 2048 ⌝ }
-    {
-        CLASS_OF_STEP
-    }
-
-    // The compiler makes a constant array anew where it is read, as much of it as the index can reach. So sizes up to
-    // 256, 2,048 and 8,192 bytes have a look of their own, at the front of the table alone.
-    fn small_entry(self, step: usize) -> u8
-        ensures { λ r. ⌜ r ≡ classOf self (8 * (step % 32 + 1)) ⌝ }
-    {
-        let table = self.table();
-        table[step % SMALL]
-    }
-
-    fn medium_entry(self, step: usize) -> u8
-        ensures { λ r. ⌜ r ≡ classOf self (8 * (step % 256 + 1)) ⌝ }
-    {
-        let table = self.table();
-        table[step % MEDIUM]
-    }
-
-    fn large_entry(self, step: usize) -> u8
-        ensures { λ r. ⌜ r ≡ classOf self (8 * (step % 1024 + 1)) ⌝ }
-    {
-        let table = self.table();
-        table[step % LARGE]
-    }
-
-    // The class of step + 1 steps of eight bytes.
-    fn entry(self, step: usize) -> u8
-        requires { ⌜ step < 2048 ⌝ }
-        ensures { λ r. ⌜ r ≡ classOf self (8 * (step + 1)) ⌝ }
-    {
-        if step < SMALL {
-            return self.small_entry(step);
-        }
-        if step < MEDIUM {
-            return self.medium_entry(step);
-        }
-        if step < LARGE {
-            return self.large_entry(step);
-        }
-        let table = self.table();
-        table[step]
-    }
-
-    // The class of a size; CLASSES where no slot is large enough. Slots are whole steps of eight bytes, so a size is
-    // rounded up to them. Nothing has no step of its own.
+    // The class of a size; CLASSES where no slot is large enough.
     pub fn class_of(self, size: u32) -> usize
         ensures { λ r. ⌜ r ≡ classOf self size ⌝ }
     {
-        if size == 0 {
-            return 0;
-        }
-        let step = wide(size - 1) / 8;
-        if step < STEPS {
-            self.entry(step) as usize
-        } else {
-            CLASSES
-        }
+        usual_class(size)
     }
 
     pub fn locate(self, offset: u32) -> Location

@@ -1,19 +1,45 @@
 -- Which sizes an allocation accepts: nothing as a byte, and all up to the longest slot's; refusal 5 is for the rest.
-use Prim.Native.Nat.{ℕ, _/_, _<_}
+use Prim.Native.Nat.{ℕ, _<_}
 use mathlib.Core.Path.{_≡_, refl, ap}
-use mathlib.Core.Bool.{Bool, true, false}
+use mathlib.Core.Bool.{Bool, true, false, cond}
 use mathlib.Core.List.{List}
 use native.Mathlib.Omega.{arith}
-use lib.Dec.{leb, ltb, eqb}
+use lib.Dec.{eqb}
 use borrow.Author.Tests.{eq-eqb, eqb-true}
 use Rattle.search.specs.First.{first}
 use Rattle.geometry.specs.declared.Layout.{Layout}
-use Rattle.geometry.specs.Layout.{classes, classOf, slotSize, longestSlot, slots}
+use Rattle.geometry.specs.Layout.{classes, classOf, slotSize, longestSlot}
 use Rattle.geometry.proofs.Geometry.{class-none}
-use Rattle.answer.specs.declared.Refusal.the-variants.{UnsupportedSize}
-use Rattle.metadata.specs.Metadata.{countOf}
-use Rattle.rules.specs.Outcome.{Outcome, refused, reply}
-use Rattle.rules.specs.Allocate.{foundIn, allocate}
+use Rattle.answer.specs.declared.Refusal.the-variants.{UnsupportedSize, ClassTooSmall, ClassAtCapacity, CorruptMetadata}
+use Rattle.mwc.specs.declared.Generator.{Generator}
+use Rattle.rules.specs.Outcome.{Outcome, refused, allocated, reply}
+use Rattle.rules.specs.Allocate.{allocate}
+
+-- what an allocation of a size that some class holds can come to; which tests lead to it plays no part
+data Held : Outcome → Type 0 where
+  small : Held (refused ClassTooSmall)
+  full : Held (refused ClassAtCapacity)
+  none : Held (refused CorruptMetadata)
+  served : (c i : ℕ) (g : Generator) → Held (allocated c i g)
+
+-- whatever a test says, and where it says no
+tested : (t : Bool) {o o′ : Outcome} → Held o → Held o′ → Held (cond t o o′)
+tested true h k = h
+tested false h k = k
+
+past : (t : Bool) (o : Outcome) {o′ : Outcome} → t ≡ false → Held o′ → Held (cond t o o′)
+past t o e h = rw e h
+
+number : Layout → Outcome → ℕ
+number G o = reply G o .number
+
+-- that is never refused as unsupported
+held-other : (G : Layout) {o : Outcome} → Held o → o ≡ refused UnsupportedSize → ⊥
+unfolding number
+held-other G small e = omega (arith, ap (number G) e)
+held-other G full e = omega (arith, ap (number G) e)
+held-other G none e = omega (arith, ap (number G) e)
+held-other G (served c i g) e = omega (arith, ap (number G) e)
 
 module _ (G : Layout) (m : List ℕ) where
   -- a request for nothing comes to what one for a byte comes to
@@ -22,30 +48,19 @@ module _ (G : Layout) (m : List ℕ) where
   nothing-as-a-byte = refl
 
   module _ (size : ℕ) where
-    number : Outcome → ℕ
-    number o = reply G o .number
-
     -- a size is refused as unsupported where it is longer than any slot
     pub longer-refused : longestSlot < size → allocate G m size ≡ refused UnsupportedSize
     unfolding allocate
     longer-refused h = rw (eq-eqb (classOf G size) classes (class-none G size .1 h))
 
+    held : eqb (classOf G size) classes ≡ false → Held (allocate G m size)
+    unfolding allocate
+    held p = search (past, p, tested, small, full, none, served)
+
     -- and only there
     pub refused-longer : allocate G m size ≡ refused UnsupportedSize → longestSlot < size
-    unfolding allocate number
-    refused-longer e =
-        go (eqb c classes) refl (ltb n 2) refl (leb (n / 2) (countOf c m)) refl (leb n (foundIn G m c .slot)) refl
+    refused-longer e = go (eqb (classOf G size) classes) refl
       where
-        c : ℕ
-        c = classOf G size
-
-        n : ℕ
-        n = slots G c
-
-        go : (t : Bool) → eqb c classes ≡ t → (u : Bool) → ltb n 2 ≡ u
-            → (v : Bool) → leb (n / 2) (countOf c m) ≡ v → (x : Bool) → leb n (foundIn G m c .slot) ≡ x → longestSlot < size
-        go true p u q v r x s = class-none G size .0 (eqb-true c classes p)
-        go false p true q v r x s = let f = rw (p, q) at (ap number e) in absurd (omega (arith, f))
-        go false p false q true r x s = let f = rw (p, q, r) at (ap number e) in absurd (omega (arith, f))
-        go false p false q false r true s = let f = rw (p, q, r, s) at (ap number e) in absurd (omega (arith, f))
-        go false p false q false r false s = let f = rw (p, q, r, s) at (ap number e) in absurd (omega (arith, f))
+        go : (t : Bool) → eqb (classOf G size) classes ≡ t → longestSlot < size
+        go true p = class-none G size .0 (eqb-true (classOf G size) classes p)
+        go false p = absurd (held-other G (held p) e)

@@ -1,35 +1,35 @@
--- `Layout::entry` meets its contract: whatever the index can reach, it is the same table.
+-- `entry` meets its contract: whatever the index can reach, it is the same table.
 use native.Mathlib.Omega.{arith}
-use Rattle.geometry.proofs.Steps.{entry-at, entry-reached}
-use Rattle.geometry.proofs.Layout.entry.Statement.{statement}
-use Rattle.geometry.proofs.Layout.entry.Tie as tie
+use Rattle.sizes.proofs.Steps.{entry-at, entry-reached}
+use Rattle.sizes.proofs.entry.Statement.{statement}
+use Rattle.sizes.proofs.entry.Tie as tie
 
 small-entry-requires : tie.Need-small-entry-requires
 small-entry-requires c κs = tt
 
 returns : tie.Need-returns
-returns c = entry-reached _ _ _ (c .small-entry .ensures) (omega arith)
+returns c = entry-reached _ _ (c .small-entry .ensures) (omega arith)
 
 medium-entry-requires : tie.Need-medium-entry-requires
 medium-entry-requires c κs = tt
 
 returns-2 : tie.Need-returns-2
-returns-2 c = entry-reached _ _ _ (c .medium-entry .ensures) (omega arith)
+returns-2 c = entry-reached _ _ (c .medium-entry .ensures) (omega arith)
 
 large-entry-requires : tie.Need-large-entry-requires
 large-entry-requires c κs = tt
 
 returns-3 : tie.Need-returns-3
-returns-3 c = entry-reached _ _ _ (c .large-entry .ensures) (omega arith)
+returns-3 c = entry-reached _ _ (c .large-entry .ensures) (omega arith)
 
-table-requires : tie.Need-table-requires
-table-requires c κs = tt
+entries-requires : tie.Need-entries-requires
+entries-requires c κs = tt
 
 array-read-result : tie.Need-array-read-result
 array-read-result c = omega arith
 
 returns-4 : tie.Need-returns-4
-returns-4 c = entry-at _ _ (c .table .ensures) (omega arith)
+returns-4 c = entry-at _ (c .entries .ensures) (omega arith)
 
 pub entry-spec : {M : Type 1} → statement M
 entry-spec =
@@ -41,6 +41,6 @@ entry-spec =
     returns-2
     large-entry-requires
     returns-3
-    table-requires
+    entries-requires
     array-read-result
     returns-4)

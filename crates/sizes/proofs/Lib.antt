@@ -1,0 +1,3 @@
+-- Laws of the usual slot sizes, and of the table of classes.
+pub mod Sizes
+pub mod Steps
