@@ -1,6 +1,7 @@
 -- An input assembled line by line.
 use Prim.Native.Nat.{ℕ, _+_, _-_, _*_, _^_, _≤_, _<_}
 use native.Mathlib.Omega.{arith}
+use borrow.Author.Tests.{le-leb}
 use mathlib.Core.Path.{_≡_, refl, sym, _∙_}
 use mathlib.Core.Bool.{true}
 use mathlib.Core.List.{List, [], _++_, append-assoc, append-nil}
@@ -10,13 +11,13 @@ use Rattle.writing.proofs.Writing.{overwrite-length}
 use Rattle.request.specs.Parse.{requestSize}
 use Rattle.line.specs.Line.{readLine, requestOf}
 use Rattle.line.specs.declared.Line.{Line}
-use Rattle.assembly.specs.Put.{Put}
-use Rattle.assembly.specs.Message.{messageOf, messageRoom}
+use Rattle.messages.specs.Put.{Put}
+use Rattle.messages.specs.Message.{messageRoom, messageWithin}
 use Rattle.assembly.specs.Batch.{newline, lines, rest, used, requestsOf, messagesOf, requestsIn, messagesIn}
 use Rattle.assembly.specs.Batch.{doneOf, fits}
 use Rattle.assembly.specs.declared.Done.{Done}
 use Rattle.assembly.proofs.Room.{room-known}
-use Rattle.assembly.proofs.Putting.{two-put, nothing-put}
+use Rattle.messages.proofs.Putting.{two-put, nothing-put}
 use Rattle.assembly.proofs.Splitting.{split-lines, split-rest, line-found, no-line}
 
 -- of all that is to be written at the front of a buffer, the part before place n is
@@ -88,14 +89,15 @@ module _ {input : List ℕ} {number : ℕ} {out₀ errors₀ : List ℕ} where
     pub assembled-more : end < length input → {text : List ℕ} {line : Line} {r m last : ℕ} {out₁ errors₁ : List ℕ}
         → text ≡ take (end - at) (drop at input) → line ≡ readLine text
         → r ≤ filled + requestSize → Put out filled (requestOf line) r out₁
-        → m ≤ said + messageRoom → Put errors said (messageOf next text line) m errors₁
+        → m ≤ said + messageRoom → Put errors said (messageWithin (length errors - said) next text line) m errors₁
         → last ≡ end + 1 + indexOf newline (slice (end + 1) (length input) input) → last ≤ length input
         → Assembled input number out₀ errors₀ out₁ errors₁ (end + 1) (next + 1) r m last
     unfolding requestsOf messagesOf
-    assembled-more some t e small put small′ put′ f w =
+    assembled-more some t e small put small′ within f w =
         let found = line-found input at end (p .found) start some in
         let split = split-lines found in
         let from : at ≤ end = start in
+        let put′ = rw (le-leb messageRoom (length errors - said) (omega arith)) at within in
         let after = drop (end + 1) input in
         let later = messagesIn (next + 1) after in
         let requests = filled-more (p .requests) {more = requestsIn after} (rw (split, e, t)) put (omega arith) in

@@ -9,7 +9,7 @@ use lib.ListN.{length, take, length-append, length-take}
 use lib.Seq.{take-all}
 use lib.Dec.{eqb}
 use Rattle.line.specs.Line.{longestLine, readLine, requestOf}
-use Rattle.assembly.specs.Message.{foundIn, messageOf}
+use Rattle.messages.specs.Message.{foundIn, messageOf}
 use Rattle.assembly.specs.Batch.{newline, linesFrom, restFrom, lines, requestsOf, messagesOf}
 use Rattle.assembly.specs.Pieces.{longestStart, whole, linesIn}
 use Rattle.line.specs.declared.Line.{Line}

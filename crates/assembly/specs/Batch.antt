@@ -6,7 +6,7 @@ use lib.ListN.{length}
 use lib.Dec.{leb, ltb, eqb}
 use Rattle.request.specs.Parse.{requestSize}
 use Rattle.line.specs.Line.{readLine, requestOf}
-use Rattle.assembly.specs.Message.{messageOf, messageRoom}
+use Rattle.messages.specs.Message.{messageOf, messageRoom}
 use Rattle.assembly.specs.declared.Done.{Done}
 
 abbrev pub newline : ℕ

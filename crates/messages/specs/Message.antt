@@ -3,7 +3,7 @@ use Prim.Native.Nat.{ℕ, _+_}
 use mathlib.Core.Bool.{cond}
 use mathlib.Core.List.{List, [], _++_}
 use lib.ListN.{length}
-use lib.Dec.{eqb}
+use lib.Dec.{leb, eqb}
 use Rattle.decimal.specs.Decimal.{width, decimal}
 use Rattle.quoting.specs.Quoted.{quoted, quotedRoom}
 use Rattle.line.specs.Text.{bytes, wordAt}
@@ -50,3 +50,7 @@ foundRoom = quotedRoom + 1
 
 abbrev pub messageRoom : ℕ
 messageRoom = 5 + (width + (expectedRoom + foundRoom))
+
+-- what is said into `room` bytes: nothing where these are too few for some message
+abbrev pub messageWithin : ℕ → ℕ → List ℕ → Line → List ℕ
+messageWithin room number line read = cond (leb messageRoom room) (messageOf number line read) []

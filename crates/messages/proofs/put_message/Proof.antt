@@ -5,11 +5,11 @@ use mathlib.Core.Logic.{⊎-elim}
 use native.Mathlib.Omega.{arith}
 use borrow.Author.Needs.{needs}
 use Rattle.line.specs.Text.{wordAt}
-use Rattle.assembly.specs.Message.{found, foundIn}
-use Rattle.assembly.proofs.Silence.{none-found}
-use Rattle.assembly.proofs.Putting.{two-put}
-use Rattle.assembly.proofs.output.put_message.Statement.{statement}
-use Rattle.assembly.proofs.output.put_message.Tie as tie
+use Rattle.messages.specs.Message.{found, foundIn}
+use Rattle.messages.proofs.Silence.{none-found}
+use Rattle.messages.proofs.Putting.{two-put}
+use Rattle.messages.proofs.put_message.Statement.{statement}
+use Rattle.messages.proofs.put_message.Tie as tie
 
 say-expected-requires : tie.Need-say-expected-requires
 say-expected-requires c κs = search needs
