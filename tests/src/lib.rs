@@ -3,7 +3,6 @@
 //! other.
 
 pub mod capi;
-pub mod compare;
 pub mod exported;
 pub mod inputs;
 pub mod random;
