@@ -1,5 +1,6 @@
 //! Edges of every region length: seeds, sizes, offsets, lengths and draws.
 
+use crate::metadata;
 use crate::session::{
     expect, Session, ALLOCATE, COPY_BYTES, COPY_PADDED, COPY_STRING, FREE, PAGE, READ, REMAINING,
 };
@@ -103,7 +104,7 @@ fn edge_reads(tester: &mut Tester, session: &mut Session, start: u32) {
 pub fn traps(tester: &mut Tester, rng: &mut Random, shape: Shape) {
     let mut session = Session::counting(shape);
     for class in (0..CLASSES).filter(|&class| shape.slots(class) >= 128) {
-        session.replace_metadata(&inputs::trap(rng, shape, class));
+        session.replace_metadata(&metadata::trap(rng, shape, class));
         for _ in 0..2 {
             session.run(tester, ALLOCATE, inputs::slot_size(class) as u32);
         }

@@ -1,9 +1,12 @@
 //! Random calls: runs of requests on one heap, among them votes and wrong lengths.
 
 use crate::kinds;
+use crate::metadata;
+use crate::requests;
 use crate::session::{Session, ALLOCATE, COPY_PADDED, READ};
 use crate::tester::Tester;
 use crate::twin::Twin;
+use crate::votes;
 use poheldu_tests::inputs::{self, Shape, CLASSES};
 use poheldu_tests::random::Random;
 use poheldu_tests::reference::Answer;
@@ -12,7 +15,7 @@ pub fn random_calls(tester: &mut Tester, rng: &mut Random, calls: u64) {
     match rng.below(40) {
         0 => wrong_lengths(tester, rng),
         1 => (0..20).for_each(|_| {
-            tester.metadata_length(inputs::any_length(rng));
+            tester.metadata_length(metadata::any_length(rng));
         }),
         2..=5 => (0..100).for_each(|_| random_vote(tester, rng)),
         _ => random_session(tester, rng, calls),
@@ -24,7 +27,7 @@ fn random_guard(rng: &mut Random) -> usize {
 }
 
 fn random_vote(tester: &mut Tester, rng: &mut Random) {
-    let vote = inputs::vote(rng);
+    let vote = votes::vote(rng);
     let guard = random_guard(rng);
     let mut blocks = Twin::new(&vote.blocks, guard);
     let mut output = Twin::new(&vote.output, guard);
@@ -34,9 +37,9 @@ fn random_vote(tester: &mut Tester, rng: &mut Random) {
 /// Calls on buffers whose lengths seldom belong together.
 fn wrong_lengths(tester: &mut Tester, rng: &mut Random) {
     for _ in 0..10 {
-        let (guard, heap_len) = (random_guard(rng), inputs::heap_length(rng));
+        let (guard, heap_len) = (random_guard(rng), metadata::heap_length(rng));
         let heap = rng.bytes(heap_len);
-        let metadata_len = inputs::metadata_length(rng, heap_len);
+        let metadata_len = metadata::metadata_length(rng, heap_len);
         let metadata = rng.bytes(metadata_len);
         let shape = Shape {
             region: (heap_len / CLASSES).max(1),
@@ -45,7 +48,7 @@ fn wrong_lengths(tester: &mut Tester, rng: &mut Random) {
         let (z, w) = (rng.pick(&[0, 1, 9]), rng.pick(&[0, 1, 9]));
         random_serve(tester, rng, &mut session, &[]);
         session.inspect(tester, rng.below(3));
-        session.open_with(tester, z, w, inputs::pattern(rng));
+        session.open_with(tester, z, w, metadata::pattern(rng));
         random_serve(tester, rng, &mut session, &[]);
         random_read(tester, rng, &mut session, &[]);
         random_lookup(tester, rng, &mut session, &[]);
@@ -62,28 +65,28 @@ fn random_serve(
     allocated: &[u32],
 ) -> (Option<u8>, Answer) {
     let request = random_request(rng, &session.shape, allocated);
-    let (source, page) = (inputs::source(rng), inputs::page(rng));
+    let (source, page) = (requests::source(rng), requests::page(rng));
     let answer = session.serve(tester, &request, &source, &page);
     (request.first().copied(), answer)
 }
 
 fn random_lookup(tester: &mut Tester, rng: &mut Random, session: &mut Session, allocated: &[u32]) {
-    let offset = inputs::offset(rng, session.shape, allocated);
+    let offset = requests::offset(rng, session.shape, allocated);
     let class = rng.below(CLASSES + 1);
     let most = session.shape.region / inputs::slot_size(class) + 1;
     session.look_up(tester, class as u32, rng.below(most) as u32, offset);
 }
 
 fn random_read(tester: &mut Tester, rng: &mut Random, session: &mut Session, allocated: &[u32]) {
-    let offset = inputs::offset(rng, session.shape, allocated);
-    let (count, page) = (inputs::count(rng), inputs::page(rng));
+    let offset = requests::offset(rng, session.shape, allocated);
+    let (count, page) = (requests::count(rng), requests::page(rng));
     session.read(tester, offset, count, &page);
 }
 
 /// An inspection with a list that is about as long as it must be.
 fn random_inspection(tester: &mut Tester, rng: &mut Random, session: &mut Session) {
     let hits = kinds::hits(session.heap.bytes(), session.metadata.bytes());
-    let list_len = inputs::list_length(rng, hits);
+    let list_len = requests::list_length(rng, hits);
     if rng.once_in(4) {
         session.inspect_changed(tester, list_len);
     } else {
@@ -94,7 +97,7 @@ fn random_inspection(tester: &mut Tester, rng: &mut Random, session: &mut Sessio
 /// Others write to the heap, wherever they like.
 fn random_scribble(rng: &mut Random, session: &mut Session, allocated: &[u32]) {
     let pattern = inputs::pattern_of(session.metadata.bytes());
-    let (at, bytes) = inputs::scribble(rng, session.shape, pattern, allocated);
+    let (at, bytes) = requests::scribble(rng, session.shape, pattern, allocated);
     session.scribble(at, &bytes);
 }
 
@@ -102,16 +105,16 @@ fn random_scribble(rng: &mut Random, session: &mut Session, allocated: &[u32]) {
 fn random_request(rng: &mut Random, shape: &Shape, allocated: &[u32]) -> Vec<u8> {
     let operation = rng.pick(&[0, 0, 0, 0, 0, 1, 1, 2, 3, 4, 5, 5, 6, 6]);
     let argument = match operation {
-        ALLOCATE => inputs::size(rng),
-        _ => inputs::offset(rng, *shape, allocated),
+        ALLOCATE => requests::size(rng),
+        _ => requests::offset(rng, *shape, allocated),
     };
     let count = match operation {
-        COPY_PADDED | READ => inputs::count(rng),
+        COPY_PADDED | READ => requests::count(rng),
         _ => 0,
     };
     let good = inputs::request(operation, argument, count);
     if rng.once_in(25) {
-        inputs::damaged_request(rng, good)
+        requests::damaged_request(rng, good)
     } else {
         good.to_vec()
     }
@@ -130,7 +133,7 @@ fn random_session(tester: &mut Tester, rng: &mut Random, calls: u64) {
     } else {
         random_open(tester, rng, &mut session);
     }
-    let class = rng.once_in(2).then(|| inputs::class(rng, shape));
+    let class = rng.once_in(2).then(|| requests::class(rng, shape));
     for _ in 0..rng.between(1, 200) {
         if tester.calls >= calls {
             break;
@@ -143,7 +146,7 @@ fn random_session(tester: &mut Tester, rng: &mut Random, calls: u64) {
 /// Metadata that no opening made; half of these heaps hold the pattern all the
 /// same, so that few slots are listed.
 fn foreign_start(rng: &mut Random, session: &mut Session) {
-    let metadata = inputs::foreign_metadata(rng, session.shape);
+    let metadata = metadata::foreign_metadata(rng, session.shape);
     session.replace_metadata(&metadata);
     if rng.once_in(2) {
         let pattern = inputs::pattern_of(&metadata);
@@ -154,8 +157,8 @@ fn foreign_start(rng: &mut Random, session: &mut Session) {
 }
 
 fn random_open(tester: &mut Tester, rng: &mut Random, session: &mut Session) {
-    let (z, w) = inputs::seeds(rng);
-    session.open_with(tester, z, w, inputs::pattern(rng));
+    let (z, w) = metadata::seeds(rng);
+    session.open_with(tester, z, w, metadata::pattern(rng));
 }
 
 fn random_step(
@@ -169,7 +172,7 @@ fn random_step(
         (0, _) => random_open(tester, rng, session),
         (1, _) => damage_metadata(rng, session),
         (2..=70, Some(class)) => {
-            let size = inputs::size_in(rng, class);
+            let size = requests::size_in(rng, class);
             let answer = session.run(tester, ALLOCATE, size);
             remember(allocated, answer);
         }
@@ -203,7 +206,7 @@ fn remember(allocated: &mut Vec<u32>, answer: Answer) {
 
 fn damage_metadata(rng: &mut Random, session: &mut Session) {
     let mut metadata = session.metadata.bytes().to_vec();
-    inputs::damage(rng, session.shape, &mut metadata);
+    metadata::damage(rng, session.shape, &mut metadata);
     session.replace_metadata(&metadata);
 }
 
