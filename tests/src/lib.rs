@@ -1,9 +1,7 @@
-//! A second implementation of the allocator, the proved library's C interface,
-//! and what the differential test and the fuzzer need to hold one against the
-//! other.
+//! A second implementation of the allocator, for Rust and for C, the proved
+//! library's C interface, and what the inputs of tests are made of.
 
 pub mod capi;
-pub mod compare;
 pub mod exported;
 pub mod inputs;
 pub mod random;

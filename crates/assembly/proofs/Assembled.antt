@@ -1,6 +1,7 @@
 -- An input assembled line by line.
 use Prim.Native.Nat.{ℕ, _+_, _-_, _*_, _^_, _≤_, _<_}
 use native.Mathlib.Omega.{arith}
+use borrow.Author.Tests.{le-leb}
 use mathlib.Core.Path.{_≡_, refl, sym, _∙_}
 use mathlib.Core.Bool.{true}
 use mathlib.Core.List.{List, [], _++_, append-assoc, append-nil}
@@ -10,13 +11,13 @@ use Rattle.writing.proofs.Writing.{overwrite-length}
 use Rattle.request.specs.Parse.{requestSize}
 use Rattle.line.specs.Line.{readLine, requestOf}
 use Rattle.line.specs.declared.Line.{Line}
-use Rattle.assembly.specs.Put.{Put}
-use Rattle.assembly.specs.Message.{messageOf, messageRoom}
-use Rattle.assembly.specs.Batch.{newline, lines, rest, used, requestsOf, messagesOf, requestsIn, messagesIn}
+use Rattle.messages.specs.Put.{Put}
+use Rattle.messages.specs.Message.{messageRoom, messageWithin}
+use Rattle.assembly.specs.Batch.{newline, lines, unended, used, requestsOf, messagesOf, requestsIn, messagesIn}
 use Rattle.assembly.specs.Batch.{doneOf, fits}
 use Rattle.assembly.specs.declared.Done.{Done}
 use Rattle.assembly.proofs.Room.{room-known}
-use Rattle.assembly.proofs.Putting.{two-put, nothing-put}
+use Rattle.messages.proofs.Putting.{two-put, nothing-put}
 use Rattle.assembly.proofs.Splitting.{split-lines, split-rest, line-found, no-line}
 
 -- of all that is to be written at the front of a buffer, the part before place n is
@@ -53,7 +54,7 @@ pub record Assembled (input : List ℕ) (number : ℕ) (out₀ errors₀ out err
   pub requests : Filled out₀ out filled (requestsIn input) (requestsIn (drop at input))
   pub messages : Filled errors₀ errors said (messagesIn number input) (messagesIn next (drop at input))
   pub lines-rest : number + length (lines input) ≡ next + length (lines (drop at input))
-  pub text-rest : rest input ≡ rest (drop at input)
+  pub text-rest : unended input ≡ unended (drop at input)
   pub found : end ≡ at + indexOf newline (slice at (length input) input)
   pub within : end ≤ length input
   pub requests-room : filled + (length input - at) * requestSize ≤ length out
@@ -88,14 +89,15 @@ module _ {input : List ℕ} {number : ℕ} {out₀ errors₀ : List ℕ} where
     pub assembled-more : end < length input → {text : List ℕ} {line : Line} {r m last : ℕ} {out₁ errors₁ : List ℕ}
         → text ≡ take (end - at) (drop at input) → line ≡ readLine text
         → r ≤ filled + requestSize → Put out filled (requestOf line) r out₁
-        → m ≤ said + messageRoom → Put errors said (messageOf next text line) m errors₁
+        → m ≤ said + messageRoom → Put errors said (messageWithin (length errors - said) next text line) m errors₁
         → last ≡ end + 1 + indexOf newline (slice (end + 1) (length input) input) → last ≤ length input
         → Assembled input number out₀ errors₀ out₁ errors₁ (end + 1) (next + 1) r m last
     unfolding requestsOf messagesOf
-    assembled-more some t e small put small′ put′ f w =
+    assembled-more some t e small put small′ within f w =
         let found = line-found input at end (p .found) start some in
         let split = split-lines found in
         let from : at ≤ end = start in
+        let put′ = rw (le-leb messageRoom (length errors - said) (omega arith)) at within in
         let after = drop (end + 1) input in
         let later = messagesIn (next + 1) after in
         let requests = filled-more (p .requests) {more = requestsIn after} (rw (split, e, t)) put (omega arith) in
@@ -127,14 +129,14 @@ module _ {input : List ℕ} {number : ℕ} {out₀ errors₀ : List ℕ} where
       unfolding messagesOf
       all-messages = filled-all (p .messages) (rw last)
 
-      pub all-left : drop at input ≡ rest input
+      pub all-left : drop at input ≡ unended input
       all-left = sym (p .text-rest ∙ split-rest (no-line input at end (p .found) none))
 
       pub all-done : _≡_ {A = Done} (record { used = at; next = next; requests = filled; messages = said })
           (doneOf number input)
       unfolding doneOf
       all-done =
-          let left : length (rest input) ≡ length input - at = rw (← all-left) (length-drop at input) in
+          let left : length (unended input) ≡ length input - at = rw (← all-left) (length-drop at input) in
           let from : at ≤ end = start in
           let w = p .within in
           let read : at ≡ used input = omega arith in

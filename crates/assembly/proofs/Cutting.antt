@@ -9,8 +9,8 @@ use lib.ListN.{length, take, length-append, length-take}
 use lib.Seq.{take-all}
 use lib.Dec.{eqb}
 use Rattle.line.specs.Line.{longestLine, readLine, requestOf}
-use Rattle.assembly.specs.Message.{foundIn, messageOf}
-use Rattle.assembly.specs.Batch.{newline, linesFrom, restFrom, lines, requestsOf, messagesOf}
+use Rattle.messages.specs.Message.{foundText, messageOf}
+use Rattle.assembly.specs.Batch.{newline, linesFrom, unendedFrom, lines, requestsOf, messagesOf}
 use Rattle.assembly.specs.Pieces.{longestStart, whole, linesIn}
 use Rattle.line.specs.declared.Line.{Line}
 use Rattle.line.specs.declared.Line.the-variants.{TooLong}
@@ -51,7 +51,7 @@ begun (inside {b = b} {text = text} e o) line =
 
 -- the start of an unfinished line, put before what is read next
 resumed : {line : List ℕ} → Open line → (text : List ℕ)
-    → Splits [] (line ++ text) (linesFrom line text) (restFrom line text)
+    → Splits [] (line ++ text) (linesFrom line text) (unendedFrom line text)
 resumed {line} o text = joined (begun o []) (splits text line)
 
 -- something that is told of each line by its bytes and how it is read; where it is too long, not by its bytes
@@ -84,13 +84,13 @@ module _ {A : Type 0} (tell : List ℕ → Line → A) (blind : (a b : List ℕ)
   alike-here {a} {b} s = rw (append-nil a, append-nil b) at (s .alike [])
 
   alike-after : {a text left : List ℕ} {ls : List (List ℕ)} → Splits a text ls left → {b : List ℕ} → Alike a b
-      → (map told ls ≡ map told (linesFrom b text)) × Alike left (restFrom b text)
-  unfolding linesFrom restFrom
+      → (map told ls ≡ map told (linesFrom b text)) × Alike left (unendedFrom b text)
+  unfolding linesFrom unendedFrom
   alike-after none s = (refl, s)
   alike-after (end e r) s =
       let f = alike-after r {b = []} (record { alike = λ v. refl }) in
-      rw (e, linesFrom, restFrom) (cc (alike-here s, f .0), f .1)
-  alike-after (byte {b = x} e r) s = rw (e, linesFrom, restFrom) (alike-after r (alike-byte s x))
+      rw (e, linesFrom, unendedFrom) (cc (alike-here s, f .0), f .1)
+  alike-after (byte {b = x} e r) s = rw (e, linesFrom, unendedFrom) (alike-after r (alike-byte s x))
 
   alike-start : {a b : List ℕ} → Alike a b → Alike (take longestStart a) b
   alike-start {a} s = record { alike = λ v. enough a v ∙ s .alike v }
@@ -102,7 +102,7 @@ module _ {A : Type 0} (tell : List ℕ → Line → A) (blind : (a b : List ℕ)
   read-in (piece ∷ more) {kept} {line} o s =
       let here = splits piece kept in
       let first = resumed o piece in
-      let all = joined (splits piece line) (splits (whole more) (restFrom line piece)) in
+      let all = joined (splits piece line) (splits (whole more) (unendedFrom line piece)) in
       let (same, alike) = alike-after here s in
       let later = read-in more (open-start longestStart (open-rest here o)) (alike-start alike) in
       rw (split-lines first, split-rest first, split-lines all, map-append, map-append, same, later)
@@ -152,7 +152,7 @@ module _ (pieces : List (List ℕ)) where
 
   pub messages-however-cut : (number : ℕ)
       → messagesOf number (linesIn [] pieces) ≡ messagesOf number (lines (whole pieces))
-  unfolding foundIn
+  unfolding foundText
   messages-however-cut number =
       messages-told (linesIn [] pieces) number
       ∙ ap (numbered number) (told-however-cut (λ line read k. messageOf k line read) (λ a b. refl) pieces)

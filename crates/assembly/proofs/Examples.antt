@@ -1,63 +1,29 @@
--- The lines of a text, what is left after them, and what is said of bad ones.
+-- The lines of a text, what is left after them, and which number a bad one has.
 use mathlib.Core.Path.{_≡_, refl}
-use mathlib.Core.List.{[], _∷_, map}
-use lib.ListN.{length, replicate}
+use mathlib.Core.List.{[], _∷_, _++_, map}
 use Rattle.search.specs.First.{first}
 use Rattle.alike.specs.Alike.{alike}
 use Rattle.bytes.specs.Bytes.{indexOf, indexAfter}
 use Rattle.line.specs.Text.{bytes, isBlank, nextWord, trimmedEnd}
 use Rattle.line.specs.Number.{more, withDigits, number}
-use Rattle.line.specs.Line.{operationOf, request, counted, operands, statement, readText}
-use Rattle.assembly.specs.Batch.{linesFrom, restFrom, lines, rest, messagesOf}
-use Rattle.assembly.specs.Pieces.{whole}
-use Rattle.assembly.specs.Message.{found, said, expectedOf, foundIn, expectedRoom, foundRoom}
+use Rattle.line.specs.Line.{operationOf, request, operands, statement, readText}
+use Rattle.messages.specs.Message.{found, said, expectedOf, foundText}
 use Rattle.quoting.specs.Quoted.{shownByte, quoted}
 use Rattle.decimal.specs.Decimal.{decimalIn}
+use Rattle.assembly.specs.Batch.{linesFrom, unendedFrom, lines, unended, messagesOf}
 
 two-lines : lines (bytes "place 5\n\nfree") ≡ bytes "place 5" ∷ [] ∷ []
 unfolding bytes linesFrom
 two-lines = refl
 
-unfinished-line : rest (bytes "place 5\n\nfree") ≡ bytes "free"
-unfolding bytes restFrom
+unfinished-line : unended (bytes "place 5\n\nfree") ≡ bytes "free"
+unfolding bytes unendedFrom
 unfinished-line = refl
 
--- a message for each kind of bad line
-bad-lines-named : messagesOf 9
-    (map bytes ("place 5" ∷ "placed 5" ∷ "text # 5" ∷ "free\t4294967296\r" ∷ "copy 1 two" ∷ []))
-    ≡ whole
-    (map bytes
-    ("line 10: expected place, free, measure, copy, text, counted or read, found \"placed\"\n"
-    ∷ "line 11: expected a number from 0 to 4294967295, found the end of the line\n"
-    ∷ "line 12: expected a number from 0 to 4294967295, found \"4294967296\"\n"
-    ∷ "line 13: expected nothing after the numbers, found \"two\"\n"
-    ∷ []))
+-- good lines have numbers too
+lines-numbered : messagesOf 9 (map bytes ("free" ∷ "free 5" ∷ "free 5 6" ∷ []))
+    ≡ bytes "line 9: expected a number from 0 to 4294967295, found the end of the line\n"
+    ++ bytes "line 11: expected nothing after the numbers, found \"6\"\n"
 unfolding bytes first alike indexOf indexAfter isBlank nextWord trimmedEnd more withDigits number operationOf
-    request counted operands statement readText messagesOf expectedOf foundIn found quoted shownByte said decimalIn whole
-bad-lines-named = refl
-
-long-line-named : messagesOf 1 (replicate 256 32 ∷ []) ≡ bytes "line 1: expected at most 255 bytes, found more\n"
-unfolding bytes trimmedEnd readText messagesOf expectedOf foundIn said decimalIn
-long-line-named = refl
-
--- 24 bytes of a word are shown; a longer one has dots, and a byte that is not printable is a question mark
-words-shown : map (λ w. found (bytes w))
-    ("abcdefghijklmnopqrstuvwx" ∷ "abcdefghijklmnopqrstuvwxy" ∷ "a\rb\u{1b}c" ∷ "!aÿ~" ∷ "a\u{7f}b" ∷ [])
-    ≡ map bytes
-    ("\"abcdefghijklmnopqrstuvwx\"\n"
-    ∷ "\"abcdefghijklmnopqrstuvwx\"...\n"
-    ∷ "\"a?b?c\"\n"
-    ∷ "\"!a?~\"\n"
-    ∷ "\"a?b\"\n"
-    ∷ [])
-unfolding bytes found quoted shownByte
-words-shown = refl
-
--- the longest texts have their room and no more
-longest-expected : length (bytes ": expected place, free, measure, copy, text, counted or read, found ") ≡ expectedRoom
-unfolding bytes
-longest-expected = refl
-
-longest-found : length (found (replicate 25 65)) ≡ foundRoom
-unfolding bytes found quoted shownByte
-longest-found = refl
+    request operands statement readText messagesOf expectedOf foundText found quoted shownByte said decimalIn
+lines-numbered = refl

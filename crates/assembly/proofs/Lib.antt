@@ -2,8 +2,7 @@
 pub mod Examples
 pub mod Room
 pub mod Splitting
-pub mod Putting
-pub mod Silence
+pub mod Requests
 pub mod Gathering
 pub mod Assembled
 pub mod Turning

@@ -5,7 +5,7 @@ use mathlib.Core.Bool.{true, false, and-eq-true-iff}
 use borrow.Author.Tests.{lt-ltb, le-ltb, le-leb, lt-leb, ltb-true, leb-true}
 use lib.Dec.{leb}
 use Rattle.request.specs.Parse.{requestSize}
-use Rattle.assembly.specs.Message.{messageRoom}
+use Rattle.messages.specs.Message.{messageRoom}
 use Rattle.assembly.specs.Batch.{fits}
 
 module _ (n number out errors : ℕ) where

@@ -8,7 +8,7 @@ use lib.ListN.{length, take, drop, length-drop}
 use lib.Seq.{take-length, drop-drop}
 use lib.Dec.{eqb}
 use Rattle.bytes.specs.Bytes.{slice, indexOf, indexAfter}
-use Rattle.assembly.specs.Batch.{newline, linesFrom, restFrom, lines, rest}
+use Rattle.assembly.specs.Batch.{newline, linesFrom, unendedFrom, lines, unended}
 
 -- a text after the start of a line, the lines that it ends, and what is left: the next byte ends the line, or is one of
 -- its bytes
@@ -19,16 +19,16 @@ pub data Splits : List ℕ → List ℕ → List (List ℕ) → List ℕ → Typ
   byte : {line text left : List ℕ} {b : ℕ} {ls : List (List ℕ)} → eqb b newline ≡ false
       → Splits (line ++ (b ∷ [])) text ls left → Splits line (b ∷ text) ls left
 
-pub splits : (text line : List ℕ) → Splits line text (linesFrom line text) (restFrom line text)
-unfolding linesFrom restFrom
+pub splits : (text line : List ℕ) → Splits line text (linesFrom line text) (unendedFrom line text)
+unfolding linesFrom unendedFrom
 splits [] line = none
 splits (b ∷ text) line = go (splits text []) (splits text (line ++ (b ∷ []))) (eqb b newline) refl
   where
-    go : Splits [] text (lines text) (rest text)
-        → Splits (line ++ (b ∷ [])) text (linesFrom (line ++ (b ∷ [])) text) (restFrom (line ++ (b ∷ [])) text)
-        → (t : Bool) → eqb b newline ≡ t → Splits line (b ∷ text) (linesFrom line (b ∷ text)) (restFrom line (b ∷ text))
-    go f g true e = rw (e, linesFrom, restFrom) (end e f)
-    go f g false e = rw (e, linesFrom, restFrom) (byte e g)
+    go : Splits [] text (lines text) (unended text)
+        → Splits (line ++ (b ∷ [])) text (linesFrom (line ++ (b ∷ [])) text) (unendedFrom (line ++ (b ∷ [])) text)
+        → (t : Bool) → eqb b newline ≡ t → Splits line (b ∷ text) (linesFrom line (b ∷ text)) (unendedFrom line (b ∷ text))
+    go f g true e = rw (e, linesFrom, unendedFrom) (end e f)
+    go f g false e = rw (e, linesFrom, unendedFrom) (byte e g)
 
 -- there is no other way to split it
 pub split-lines : {line text left : List ℕ} {ls : List (List ℕ)} → Splits line text ls left → linesFrom line text ≡ ls
@@ -37,16 +37,16 @@ split-lines none = refl
 split-lines (end e s) = rw (e, linesFrom, split-lines s)
 split-lines (byte e s) = rw (e, linesFrom) (split-lines s)
 
-pub split-rest : {line text left : List ℕ} {ls : List (List ℕ)} → Splits line text ls left → restFrom line text ≡ left
-unfolding restFrom
+pub split-rest : {line text left : List ℕ} {ls : List (List ℕ)} → Splits line text ls left → unendedFrom line text ≡ left
+unfolding unendedFrom
 split-rest none = refl
-split-rest (end e s) = rw (e, restFrom) (split-rest s)
-split-rest (byte e s) = rw (e, restFrom) (split-rest s)
+split-rest (end e s) = rw (e, unendedFrom) (split-rest s)
+split-rest (byte e s) = rw (e, unendedFrom) (split-rest s)
 
 -- what the first line end says
 record First (line text : List ℕ) (k : ℕ) : Type 0 where
   some : k < length text → let after = drop (suc k) text in
-      Splits line text ((line ++ take k text) ∷ lines after) (rest after)
+      Splits line text ((line ++ take k text) ∷ lines after) (unended after)
   last : length text ≤ k → Splits line text [] (line ++ text)
 
 first-end : (text line : List ℕ) → First line text (indexOf newline text)
@@ -80,7 +80,7 @@ module _ (input : List ℕ) (at end : ℕ) (found : end ≡ at + indexOf newline
       rw k (first-end (drop at input) [])
 
   pub line-found : at ≤ end → end < length input → let after = drop (end + 1) input in
-      Splits [] (drop at input) (take (end - at) (drop at input) ∷ lines after) (rest after)
+      Splits [] (drop at input) (take (end - at) (drop at input) ∷ lines after) (unended after)
   line-found within h =
       let k : at + suc (end - at) ≡ end + 1 = omega arith in
       let after : drop (suc (end - at)) (drop at input) ≡ drop (end + 1) input = rw (drop-drop, k) in

@@ -10,7 +10,7 @@ use lib.Seq.{length-take-le}
 use Rattle.writing.specs.Overwrite.{overwrite}
 use Rattle.writing.proofs.Parts.{drop-take}
 use Rattle.numbers.proofs.Cut.{take-min}
-use Rattle.assembly.specs.Batch.{linesFrom, restFrom, rest, requestsOf, messagesOf}
+use Rattle.assembly.specs.Batch.{linesFrom, unendedFrom, unended, requestsOf, messagesOf}
 use Rattle.assembly.specs.Batch.{requestsIn, messagesIn, doneOf, fits, admitted}
 use Rattle.assembly.specs.Pieces.{longestStart}
 use Rattle.assembly.specs.Turn.{textIn, Outcome, outcome}
@@ -46,15 +46,15 @@ module _ (input : List ℕ) (kept got number : ℕ) (out errors : List ℕ) {end
   room-left e = room-told ∙ e
 
   pub no-turn : room ≡ false → turned 0 number 0 0 buffer out errors ≡ outcome input kept got number out errors
-  unfolding outcome admitted doneOf linesFrom restFrom requestsOf messagesOf
+  unfolding outcome admitted doneOf linesFrom unendedFrom requestsOf messagesOf
   no-turn e =
       let same : number + 0 ≡ number = omega arith in
       rw (text, room-told, e, same, g .1)
 
   module _ (e : room ≡ true) {done : Done}
       (read : (done ≡ doneOf number (front end buffer)) × (done .used ≤ length (front end buffer)))
-      (after : drop (done .used) (front end buffer) ≡ rest (front end buffer)) where
-    left : take (end - done .used) (drop (done .used) buffer) ≡ rest (front end buffer)
+      (after : drop (done .used) (front end buffer) ≡ unended (front end buffer)) where
+    left : take (end - done .used) (drop (done .used) buffer) ≡ unended (front end buffer)
     left =
         let all : done .used + (end - done .used) ≡ end - 0 = omega (arith, size, read .1) in
         rw (← drop-take (done .used) (end - done .used) buffer, all) after

@@ -6,7 +6,7 @@ use lib.ListN.{length}
 use lib.Dec.{leb, ltb, eqb}
 use Rattle.request.specs.Parse.{requestSize}
 use Rattle.line.specs.Line.{readLine, requestOf}
-use Rattle.assembly.specs.Message.{messageOf, messageRoom}
+use Rattle.messages.specs.Message.{messageOf, messageRoom}
 use Rattle.assembly.specs.declared.Done.{Done}
 
 abbrev pub newline : ℕ
@@ -18,20 +18,20 @@ linesFrom line [] = []
 linesFrom line (b ∷ text) =
     elim (eqb b newline) [ true ↦ line ∷ linesFrom [] text | false ↦ linesFrom (line ++ (b ∷ [])) text ]
 
-unfoldable pub restFrom : List ℕ → List ℕ → List ℕ
-restFrom line [] = line
-restFrom line (b ∷ text) =
-    elim (eqb b newline) [ true ↦ restFrom [] text | false ↦ restFrom (line ++ (b ∷ [])) text ]
+unfoldable pub unendedFrom : List ℕ → List ℕ → List ℕ
+unendedFrom line [] = line
+unendedFrom line (b ∷ text) =
+    elim (eqb b newline) [ true ↦ unendedFrom [] text | false ↦ unendedFrom (line ++ (b ∷ [])) text ]
 
 abbrev pub lines : List ℕ → List (List ℕ)
 lines text = linesFrom [] text
 
-abbrev pub rest : List ℕ → List ℕ
-rest text = restFrom [] text
+abbrev pub unended : List ℕ → List ℕ
+unended text = unendedFrom [] text
 
 -- how many bytes the lines have that have their end
 abbrev pub used : List ℕ → ℕ
-used text = length text - length (rest text)
+used text = length text - length (unended text)
 
 -- the requests that lines ask for
 unfoldable pub requestsOf : List (List ℕ) → List ℕ

@@ -1,5 +1,3 @@
-pub mod Put
-pub mod Message
 pub mod Batch
 pub mod Pieces
 pub mod Turn

@@ -3,7 +3,7 @@ use Prim.Native.Nat.{ℕ, _+_}
 use mathlib.Core.List.{List, [], _∷_, _++_}
 use lib.ListN.{take}
 use Rattle.line.specs.Line.{longestLine}
-use Rattle.assembly.specs.Batch.{lines, rest}
+use Rattle.assembly.specs.Batch.{lines, unended}
 
 -- the pieces as one
 unfoldable pub whole : List (List ℕ) → List ℕ
@@ -16,7 +16,7 @@ longestStart = longestLine + 2
 
 -- the start of an unfinished line, as far as it tells that the line is too long
 abbrev pub startOf : List ℕ → List ℕ
-startOf text = take longestStart (rest text)
+startOf text = take longestStart (unended text)
 
 -- the lines that are read where this start is kept and put before the next piece
 unfoldable pub linesIn : List ℕ → List (List ℕ) → List (List ℕ)

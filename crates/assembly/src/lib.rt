@@ -1,18 +1,20 @@
 // All lines of an input, one after another, to requests and to messages about bad lines.
-mod output;
-
+use line::Line;
 use numbers::least;
 ghost use mathlib.Core.Path.{_≡_};
 ghost use mathlib.Core.Bool.{true};
-ghost use Prim.Native.Nat.{_≤_};
+ghost use Prim.Native.Nat.{_+_, _≤_};
 ghost use lib.ListN.{length, drop};
 ghost use Rattle.writing.specs.Overwrite.{overwrite};
-ghost use Rattle.assembly.specs.Batch.{rest, requestsIn, messagesIn, doneOf, fits};
+ghost use Rattle.request.specs.Parse.{requestSize};
+ghost use Rattle.line.specs.Line.{requestOf};
+ghost use Rattle.messages.specs.Put.{Put};
+ghost use Rattle.assembly.specs.Batch.{unended, requestsIn, messagesIn, doneOf, fits};
 ghost use Rattle.assembly.specs.Pieces.{longestStart};
 ghost use Rattle.assembly.specs.Turn.{gathered, textEnd, outcome};
 
-// Room for any message: `line `, its number, what was expected and what is found.
-pub const MESSAGE: usize = 5 + decimal::WIDTH + output::EXPECTED + output::FOUND;
+// Room for any message.
+pub const MESSAGE: usize = messages::ROOM;
 
 // One byte more than a line may have, and a carriage return.
 const START: usize = line::LONGEST + 2;
@@ -52,12 +54,32 @@ fn fits(len: usize, number: u64, out: usize, errors: usize) -> bool
     true
 }
 
+// Writes the request that a line asks for, if any, and answers the place after it.
+fn put_request(line: Line, out: &mut [u8], at: usize) -> usize
+    requires { ⌜ at + requestSize ≤ length (now out) ⌝ }
+    ensures { λ r. ⌜ r ≤ at + requestSize ⌝ }
+    ensures { λ r. ⌜ Put (now (out .entry)) at (requestOf line) r (now (out .exit)) ⌝ }
+{
+    let Line::Request {
+        operation,
+        argument,
+        count,
+    } = line
+    else {
+        return at;
+    };
+    let bytes = request::encode(operation, argument, count);
+    let end = at + request::SIZE;
+    bytes::copy(&bytes, &mut out[at..end]);
+    end
+}
+
 // Reads every line of the input that has its end, writes the requests that they ask for at the front of the output, and
 // at the front of the errors what bad lines should have been. No line takes less than a byte, so there is room for all.
 fn assemble_lines(input: &[u8], number: u64, out: &mut [u8], errors: &mut [u8]) -> Done
     requires { ⌜ fits (length (now input)) number (length (now out)) (length (now errors)) ≡ true ⌝ }
     ensures { λ r. ⌜ (r ≡ doneOf number (now (input .entry))) × (r .used ≤ length (now (input .entry))) ⌝ }
-    ensures { λ r. ⌜ drop (r .used) (now (input .entry)) ≡ rest (now (input .entry)) ⌝ }
+    ensures { λ r. ⌜ drop (r .used) (now (input .entry)) ≡ unended (now (input .entry)) ⌝ }
     ensures { λ r. ⌜ (r .requests ≤ length (now (out .exit))) × (r .messages ≤ length (now (errors .exit))) ⌝ }
     ensures { λ _. ⌜ now (out .exit) ≡ overwrite (now (out .entry)) 0 (requestsIn (now (input .entry))) ⌝ }
     ensures { λ _. ⌜ now (errors .exit) ≡ overwrite (now (errors .entry)) 0 (messagesIn number (now (input .entry))) ⌝ }
@@ -70,8 +92,8 @@ fn assemble_lines(input: &[u8], number: u64, out: &mut [u8], errors: &mut [u8]) 
     while end < input.len() {
         let text = &input[used..end];
         let line = line::read(text);
-        requests = output::put_request(line, out, requests);
-        messages = output::put_message(text, line, next, errors, messages);
+        requests = put_request(line, out, requests);
+        messages = messages::put(text, line, next, errors, messages);
         next += 1;
         used = end + 1;
         end = bytes::scan::find(input, used, input.len(), NEWLINE);

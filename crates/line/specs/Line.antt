@@ -8,7 +8,7 @@ use Rattle.search.specs.First.{first}
 use Rattle.alike.specs.Alike.{alike}
 use Rattle.request.specs.Parse.{hasCount, requestBytes}
 use Rattle.bytes.specs.Bytes.{indexOf}
-use Rattle.line.specs.Text.{bytes, nextWord, wordAt, trimmed}
+use Rattle.line.specs.Text.{bytes, nextWord, wordBytes, trimmed}
 use Rattle.line.specs.Number.{limit, number}
 use Rattle.line.specs.declared.Word.{Word}
 use Rattle.line.specs.declared.Line.{Line}
@@ -45,14 +45,14 @@ request text a operation argument count =
 unfoldable pub counted : List ℕ → ℕ → ℕ → ℕ → Line
 counted text a operation argument =
     let w : Word = nextWord text a in
-    let count : ℕ = number (wordAt text w) in
+    let count : ℕ = number (wordBytes text w) in
     cond (ltb count limit) (request text (w .end) operation argument count) (BadNumber w)
 
 -- the numbers from place a on
 unfoldable pub operands : List ℕ → ℕ → ℕ → Line
 operands text a operation =
     let w : Word = nextWord text a in
-    let argument : ℕ = number (wordAt text w) in
+    let argument : ℕ = number (wordBytes text w) in
     cond (ltb argument limit)
     (cond (hasCount operation)
     (counted text (w .end) operation argument)
@@ -63,7 +63,7 @@ operands text a operation =
 unfoldable pub statement : List ℕ → Line
 statement text =
     let w : Word = nextWord text 0 in
-    let operation : ℕ = operationOf (wordAt text w) in
+    let operation : ℕ = operationOf (wordBytes text w) in
     cond (eqb (w .start) (length text))
     Nothing
     (cond (eqb operation operationCount) (BadOperation w) (operands text (w .end) operation))

@@ -23,8 +23,8 @@ nextWord text a =
     record { start = start; end = seek text start true }
 
 -- the bytes of a word
-abbrev pub wordAt : List ℕ → Word → List ℕ
-wordAt text w = take (w .end - w .start) (drop (w .start) text)
+abbrev pub wordBytes : List ℕ → Word → List ℕ
+wordBytes text w = take (w .end - w .start) (drop (w .start) text)
 
 abbrev pub carriageReturn : ℕ
 carriageReturn = 13

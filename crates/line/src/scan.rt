@@ -5,7 +5,7 @@ ghost use mathlib.Core.Path.{_≡_};
 ghost use Prim.Native.Nat.{_≤_};
 ghost use lib.ListN.{length};
 ghost use Rattle.slices.specs.Part.{partAddress};
-ghost use Rattle.line.specs.Text.{isBlank, seek, nextWord, wordAt};
+ghost use Rattle.line.specs.Text.{isBlank, seek, nextWord, wordBytes};
 
 fn is_blank(byte: u8) -> bool
     ensures { λ r. ⌜ r ≡ isBlank byte ⌝ }
@@ -47,7 +47,7 @@ pub fn next(text: &[u8], from: usize) -> Word
 pub fn word_bytes(text: &[u8], word: Word) -> &[u8]
     ensures { λ r.
         ⌜ (r .ptr ≡ partAddress (text .entry .ptr) (length (now (text .entry))) (word .start) (word .end))
-        × (now r ≡ wordAt (now (text .entry)) word) ⌝ }
+        × (now r ≡ wordBytes (now (text .entry)) word) ⌝ }
 {
     between(text, word.start, word.end)
 }

@@ -6,7 +6,7 @@ use native.Mathlib.Omega.{arith}
 use lib.ListN.{length}
 use borrow.Rule.Slice.PartMut.{same-len-mid}
 use Rattle.request.specs.Parse.{requestSize}
-use Rattle.assembly.specs.Message.{messageRoom}
+use Rattle.messages.specs.Message.{messageRoom}
 use Rattle.assembly.specs.Pieces.{longestStart}
 use Rattle.assemble.proofs.Statuses.{status-within}
 use Rattle.assemble.proofs.assemble_input.Statement.{statement}

@@ -37,8 +37,8 @@ read-requires c κs = tt
 put-request-requires : tie.Need-put-request-requires Inv-loop μ-loop
 put-request-requires c κs = omega arith
 
-put-message-requires : tie.Need-put-message-requires Inv-loop μ-loop
-put-message-requires c κs = omega arith
+put-requires : tie.Need-put-requires Inv-loop μ-loop
+put-requires c κs = tt
 
 add-next : tie.Need-add-next Inv-loop μ-loop
 add-next c = omega arith
@@ -59,7 +59,7 @@ loop-again c =
     let r = q .before .before in
     let p = r .before .before .before .loop .inv in
     let (small, request) = q .put-request .ensures in
-    let (short, message) = m .put-message .ensures in
+    let (short, message) = m .put .ensures in
     let next = c .find2 .ensures .0 in
     assembled-more p (omega arith) refl (r .read .ensures) small request short message next (omega arith)
 
@@ -91,7 +91,7 @@ assemble-lines-spec =
     part-text-end
     read-requires
     put-request-requires
-    put-message-requires
+    put-requires
     add-next
     add-used
     find-requires-2

@@ -7,9 +7,9 @@ use borrow.Author.Tests.{eq-eqb, ne-eqb}
 use lib.ListN.{length, length-append, take-append-drop}
 use Rattle.line.specs.Text.{bytes}
 use Rattle.writing.proofs.Writing.{Wrote, overwrite-length, wrote-then, wrote-length}
-use Rattle.assembly.specs.Put.{Put}
+use Rattle.messages.specs.Put.{Put}
 use Rattle.quoting.specs.Quoted.{quoted}
-use Rattle.assembly.specs.Message.{found}
+use Rattle.messages.specs.Message.{found}
 
 -- texts put one after another
 pub two-put : {xs mid out ys zs : List ℕ} {at p r : ℕ} → Put xs at ys p mid → Put mid p zs r out

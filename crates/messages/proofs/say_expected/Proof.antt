@@ -1,12 +1,12 @@
 -- `say_expected` says the text of each kind of bad line.
 use native.Mathlib.Omega.{arith}
 use Rattle.line.specs.Text.{bytes}
-use Rattle.assembly.specs.Message.{expectedOf}
-use Rattle.assembly.proofs.Silence.{none-expected}
-use Rattle.assembly.proofs.Putting.{nothing-put}
+use Rattle.messages.specs.Message.{expectedOf}
+use Rattle.messages.proofs.Silence.{none-expected}
+use Rattle.messages.proofs.Putting.{nothing-put}
 use borrow.Author.Needs.{needs}
-use Rattle.assembly.proofs.output.say_expected.Statement.{statement}
-use Rattle.assembly.proofs.output.say_expected.Tie as tie
+use Rattle.messages.proofs.say_expected.Statement.{statement}
+use Rattle.messages.proofs.say_expected.Tie as tie
 
 enum-told : tie.Need-enum-told
 enum-told c = search needs

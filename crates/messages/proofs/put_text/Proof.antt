@@ -1,4 +1,4 @@
--- `put` writes a text at its place.
+-- `put_text` writes a text at its place.
 use Prim.Native.Nat.{_+_, _-_}
 use mathlib.Core.Path.{_≡_, refl}
 use native.Mathlib.Omega.{arith}
@@ -6,8 +6,8 @@ use borrow.Rule.Slice.PartMut.{midOf}
 use lib.ListN.{length, length-take, length-drop}
 use Rattle.writing.proofs.Writing.{text-put}
 use borrow.Author.Needs.{needs}
-use Rattle.assembly.proofs.output.put.Statement.{statement}
-use Rattle.assembly.proofs.output.put.Tie as tie
+use Rattle.messages.proofs.put_text.Statement.{statement}
+use Rattle.messages.proofs.put_text.Tie as tie
 
 add-end : tie.Need-add-end
 add-end c = search needs
@@ -39,7 +39,7 @@ returns c =
       bytes = text-put (a .out .now) (a .text .now) part (a .at) (a .at + n - a .at) copied refl room (omega arith);
     }
 
-pub put-spec : {M : Type 1} → statement M
-put-spec =
+pub put-text-spec : {M : Type 1} → statement M
+put-text-spec =
     tie.close
     (tie.spec add-end sub-copy part-copy-start part-copy-end copy-requires same-length returns)

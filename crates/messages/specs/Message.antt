@@ -3,10 +3,10 @@ use Prim.Native.Nat.{ℕ, _+_}
 use mathlib.Core.Bool.{cond}
 use mathlib.Core.List.{List, [], _++_}
 use lib.ListN.{length}
-use lib.Dec.{eqb}
+use lib.Dec.{leb, eqb}
 use Rattle.decimal.specs.Decimal.{width, decimal}
 use Rattle.quoting.specs.Quoted.{quoted, quotedRoom}
-use Rattle.line.specs.Text.{bytes, wordAt}
+use Rattle.line.specs.Text.{bytes, wordBytes}
 use Rattle.line.specs.declared.Line.{Line}
 use Rattle.line.specs.declared.Line.the-variants.{Request, Nothing, BadOperation, BadNumber, TrailingText, TooLong}
 
@@ -29,17 +29,17 @@ expectedOf number (TrailingText w) = said number (bytes ": expected nothing afte
 expectedOf number TooLong = said number (bytes ": expected at most 255 bytes, found more\n")
 
 -- the word of a line that stands where another was expected, if any
-unfoldable pub foundIn : List ℕ → Line → List ℕ
-foundIn line (Request operation argument count) = []
-foundIn line Nothing = []
-foundIn line (BadOperation w) = found (wordAt line w)
-foundIn line (BadNumber w) = found (wordAt line w)
-foundIn line (TrailingText w) = found (wordAt line w)
-foundIn line TooLong = []
+unfoldable pub foundText : List ℕ → Line → List ℕ
+foundText line (Request operation argument count) = []
+foundText line Nothing = []
+foundText line (BadOperation w) = found (wordBytes line w)
+foundText line (BadNumber w) = found (wordBytes line w)
+foundText line (TrailingText w) = found (wordBytes line w)
+foundText line TooLong = []
 
 -- what is said of the line with a number
 abbrev pub messageOf : ℕ → List ℕ → Line → List ℕ
-messageOf number line read = expectedOf number read ++ foundIn line read
+messageOf number line read = expectedOf number read ++ foundText line read
 
 -- the lengths of the longest text up to `found`, of what is found, and of a message: room for any
 abbrev pub expectedRoom : ℕ
@@ -50,3 +50,7 @@ foundRoom = quotedRoom + 1
 
 abbrev pub messageRoom : ℕ
 messageRoom = 5 + (width + (expectedRoom + foundRoom))
+
+-- what is said into `room` bytes: nothing where these are too few for some message
+abbrev pub messageWithin : ℕ → ℕ → List ℕ → Line → List ℕ
+messageWithin room number line read = cond (leb messageRoom room) (messageOf number line read) []

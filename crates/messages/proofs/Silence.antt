@@ -1,27 +1,17 @@
--- Of which kinds of lines there is nothing to write.
+-- Of which kinds of lines there is nothing to say.
 use Prim.Native.Nat.{ℕ}
 use mathlib.Core.Path.{_≡_, refl}
 use mathlib.Core.List.{List, [], _∷_}
 use denote.Enum.Declared.{tagOf}
 use types.Run.{OneOf, miss}
-use Rattle.line.specs.Line.{requestOf}
 use Rattle.line.specs.declared.Line.{Line}
 use Rattle.line.specs.declared.Line.the-variants.{Request, Nothing, BadOperation, BadNumber, TrailingText, TooLong}
 use Rattle.line.proofs.Line.{the-type}
-use Rattle.assembly.specs.Message.{expectedOf, foundIn}
+use Rattle.messages.specs.Message.{expectedOf, foundText}
 
 -- the kinds by their numbers, in the order of the declaration
 abbrev Kind : List ℕ → Line → Type 0
 Kind kinds line = OneOf kinds (tagOf the-type line)
-
-pub no-request : (line : Line) → Kind (1 ∷ 2 ∷ 3 ∷ 4 ∷ 5 ∷ []) line → requestOf line ≡ []
-unfolding requestOf
-no-request (Request operation argument count) k = absurd (miss (1 ∷ 2 ∷ 3 ∷ 4 ∷ 5 ∷ []) 0 tt k)
-no-request Nothing k = refl
-no-request (BadOperation w) k = refl
-no-request (BadNumber w) k = refl
-no-request (TrailingText w) k = refl
-no-request TooLong k = refl
 
 pub none-expected : (number : ℕ) (line : Line) → Kind (0 ∷ 1 ∷ []) line → expectedOf number line ≡ []
 unfolding expectedOf
@@ -32,8 +22,8 @@ none-expected number (BadNumber w) k = absurd (miss (0 ∷ 1 ∷ []) 3 tt k)
 none-expected number (TrailingText w) k = absurd (miss (0 ∷ 1 ∷ []) 4 tt k)
 none-expected number TooLong k = absurd (miss (0 ∷ 1 ∷ []) 5 tt k)
 
-pub none-found : (text : List ℕ) (line : Line) → Kind (0 ∷ 1 ∷ 5 ∷ []) line → foundIn text line ≡ []
-unfolding foundIn
+pub none-found : (text : List ℕ) (line : Line) → Kind (0 ∷ 1 ∷ 5 ∷ []) line → foundText text line ≡ []
+unfolding foundText
 none-found text (Request operation argument count) k = refl
 none-found text Nothing k = refl
 none-found text (BadOperation w) k = absurd (miss (0 ∷ 1 ∷ 5 ∷ []) 2 tt k)

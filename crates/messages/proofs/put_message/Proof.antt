@@ -4,12 +4,12 @@ use mathlib.Core.List.{append-nil}
 use mathlib.Core.Logic.{⊎-elim}
 use native.Mathlib.Omega.{arith}
 use borrow.Author.Needs.{needs}
-use Rattle.line.specs.Text.{wordAt}
-use Rattle.assembly.specs.Message.{found, foundIn}
-use Rattle.assembly.proofs.Silence.{none-found}
-use Rattle.assembly.proofs.Putting.{two-put}
-use Rattle.assembly.proofs.output.put_message.Statement.{statement}
-use Rattle.assembly.proofs.output.put_message.Tie as tie
+use Rattle.line.specs.Text.{wordBytes}
+use Rattle.messages.specs.Message.{found, foundText}
+use Rattle.messages.proofs.Silence.{none-found}
+use Rattle.messages.proofs.Putting.{two-put}
+use Rattle.messages.proofs.put_message.Statement.{statement}
+use Rattle.messages.proofs.put_message.Tie as tie
 
 say-expected-requires : tie.Need-say-expected-requires
 say-expected-requires c κs = search needs
@@ -42,13 +42,13 @@ same-length-2 : tie.Need-same-length-2
 same-length-2 c = search needs
 
 returns-2 : tie.Need-returns-2
-unfolding foundIn
+unfolding foundText
 returns-2 c =
     let b = c .before .before .before .before .before in
     let a = b .before .before .before .before .before .before .before .args in
     let e = b .before .before .before .say-expected .ensures in
     let f = rw (c .before .before .before .before .word-bytes .ensures .1) at (c .before .before .put-found .ensures) in
-    let w : foundIn (a .line .now) (a .read) ≡ found (wordAt (a .line .now) (b .match .word)) =
+    let w : foundText (a .line .now) (a .read) ≡ found (wordBytes (a .line .now) (b .match .word)) =
     ⊎-elim (λ m. rw (m .1 .given .1, m .3))
     (⊎-elim (λ m. rw (m .1 .given .1, m .3)) (λ m. rw (m .1 .given .1, m .3))) (b .match .came) in
     rw w (omega arith, two-put (e .1) (f .1) (omega arith))

@@ -1,21 +1,22 @@
-// Requests and messages, written one after another.
+// What is said of a bad line, put at a place.
 use line::Line;
-ghost use Prim.Native.Nat.{_+_, _≤_};
+ghost use Prim.Native.Nat.{_+_, _-_, _≤_};
 ghost use mathlib.Core.Path.{_≡_};
 ghost use lib.ListN.{length};
-ghost use Rattle.request.specs.Parse.{requestSize};
-ghost use Rattle.line.specs.Line.{requestOf};
-ghost use Rattle.assembly.specs.Put.{Put};
-ghost use Rattle.assembly.specs.Message.{found, said, expectedOf, messageOf};
-ghost use Rattle.assembly.specs.Message.{expectedRoom, foundRoom, messageRoom};
+ghost use Rattle.messages.specs.Put.{Put};
+ghost use Rattle.messages.specs.Message.{found, said, expectedOf, messageOf, messageWithin};
+ghost use Rattle.messages.specs.Message.{expectedRoom, foundRoom, messageRoom};
 
 // The longest text of what was expected, and of what is found: a word between quotes, and a line end.
-pub(crate) const EXPECTED: usize = 68;
+const EXPECTED: usize = 68;
 
-pub(crate) const FOUND: usize = quoting::ROOM + 1;
+const FOUND: usize = quoting::ROOM + 1;
+
+// Room for any message: `line `, its number, what was expected and what is found.
+pub const ROOM: usize = 5 + decimal::WIDTH + EXPECTED + FOUND;
 
 // Writes a text at a place, and answers the place after it.
-fn put(text: &[u8], out: &mut [u8], at: usize) -> usize
+fn put_text(text: &[u8], out: &mut [u8], at: usize) -> usize
     requires { ⌜ at + length (now text) ≤ length (now out) ⌝ }
     ensures { λ r. ⌜ Put (now (out .entry)) at (now (text .entry)) r (now (out .exit)) ⌝ }
 {
@@ -31,13 +32,13 @@ fn put_found(word: &[u8], out: &mut [u8], at: usize) -> usize
     ensures { λ r. ⌜ Put (now (out .entry)) at (found (now (word .entry))) r (now (out .exit)) ⌝ }
 {
     if word.len() == 0 {
-        return put(b"the end of the line\n", out, at);
+        return put_text(b"the end of the line\n", out, at);
     }
     let shown = quoting::quoted(word);
     let text = shown.text;
     let len = shown.len;
-    let end = put(&text[0..len], out, at);
-    put(b"\n", out, end)
+    let end = put_text(&text[0..len], out, at);
+    put_text(b"\n", out, end)
 }
 
 // Names a line by its number, and says the text of it.
@@ -47,9 +48,9 @@ fn say(number: u64, text: &[u8], out: &mut [u8], at: usize) -> usize
     ensures { λ r. ⌜ r + foundRoom ≤ at + messageRoom ⌝ }
     ensures { λ r. ⌜ Put (now (out .entry)) at (said number (now (text .entry))) r (now (out .exit)) ⌝ }
 {
-    let first = put(b"line ", out, at);
+    let first = put_text(b"line ", out, at);
     let second = decimal::put(out, first, number);
-    put(text, out, second)
+    put_text(text, out, second)
 }
 
 // Says what a bad line should have been, and of any other line nothing.
@@ -87,26 +88,8 @@ fn say_expected(number: u64, read: Line, out: &mut [u8], at: usize) -> usize
     }
 }
 
-// Writes the request that a line asks for, if any.
-pub(crate) fn put_request(line: Line, out: &mut [u8], at: usize) -> usize
-    requires { ⌜ at + requestSize ≤ length (now out) ⌝ }
-    ensures { λ r. ⌜ r ≤ at + requestSize ⌝ }
-    ensures { λ r. ⌜ Put (now (out .entry)) at (requestOf line) r (now (out .exit)) ⌝ }
-{
-    let Line::Request {
-        operation,
-        argument,
-        count,
-    } = line
-    else {
-        return at;
-    };
-    let bytes = request::encode(operation, argument, count);
-    put(&bytes, out, at)
-}
-
 // Writes what a bad line should have been and what it is, and of any other line nothing.
-pub(crate) fn put_message(line: &[u8], read: Line, number: u64, out: &mut [u8], at: usize) -> usize
+fn put_message(line: &[u8], read: Line, number: u64, out: &mut [u8], at: usize) -> usize
     requires { ⌜ at + messageRoom ≤ length (now out) ⌝ }
     ensures { λ r. ⌜ r ≤ at + messageRoom ⌝ }
     ensures { λ r. ⌜ Put (now (out .entry)) at (messageOf number (now (line .entry)) read) r (now (out .exit)) ⌝ }
@@ -118,4 +101,21 @@ pub(crate) fn put_message(line: &[u8], read: Line, number: u64, out: &mut [u8], 
         }
         _ => end,
     }
+}
+
+// Writes at a place what is said of a line that was read so, and answers the place after it. Where there may be no room
+// for a message, nothing is written.
+pub fn put(line: &[u8], read: Line, number: u64, out: &mut [u8], at: usize) -> usize
+    ensures { λ r. ⌜ r ≤ at + messageRoom ⌝ }
+    ensures { λ r.
+        let text = messageWithin (length (now (out .entry)) - at) number (now (line .entry)) read in
+        ⌜ Put (now (out .entry)) at text r (now (out .exit)) ⌝ }
+{
+    if out.len() < at {
+        return at;
+    }
+    if out.len() - at < ROOM {
+        return at;
+    }
+    put_message(line, read, number, out, at)
 }

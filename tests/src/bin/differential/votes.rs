@@ -1,0 +1,161 @@
+//! Votes: every number of replicas, random blocks, and numbers that no buffer has.
+
+use crate::tester::Tester;
+use crate::twin::Twin;
+use poheldu_tests::random::Random;
+
+pub const HUGE: [usize; 10] = [
+    1 << 32,
+    (1 << 32) + 3,
+    (1 << 32) + 16,
+    (1 << 63) - 1,
+    1 << 63,
+    (1 << 63) + 1,
+    (1 << 63) + 4,
+    usize::MAX - 3,
+    usize::MAX - 1,
+    usize::MAX,
+];
+
+/// Every number of replicas with every block length at an edge.
+pub fn vote_grid(tester: &mut Tester, rng: &mut Random) {
+    for replicas in 0..=17 {
+        for block_len in [0, 1, 2, 4_095, 4_096, 4_097] {
+            let blocks = replica_blocks(rng, replicas, block_len);
+            let mut output = Twin::new(&vec![0x3F; block_len + 3], 0);
+            tester.vote(&mut Twin::new(&blocks, 0), replicas, block_len, &mut output);
+        }
+    }
+}
+
+/// Numbers near 2^32, 2^63 and 2^64 with buffers of a few bytes.
+pub fn huge_votes(tester: &mut Tester) {
+    for huge in HUGE {
+        for other in [0, 1, 2, 3, 4, 1 << 32, 1 << 63, usize::MAX] {
+            for len in [0, 3, 4] {
+                let mut blocks = Twin::new(&b"AAAA"[..len], 0);
+                let mut output = Twin::new(b"????", 0);
+                tester.vote(&mut blocks, huge, other, &mut output);
+                tester.vote(&mut blocks, other, huge, &mut output);
+            }
+        }
+    }
+}
+
+/// The inputs of a vote: blocks, replicas, block length, output.
+pub struct Vote {
+    pub blocks: Vec<u8>,
+    pub replicas: usize,
+    pub block_len: usize,
+    pub output: Vec<u8>,
+}
+
+pub fn vote(rng: &mut Random) -> Vote {
+    if rng.once_in(8) {
+        return huge_vote(rng);
+    }
+    let replicas = match rng.below(6) {
+        0 => rng.below(18),
+        _ => rng.between(3, 16),
+    };
+    let block_len = block_length(rng);
+    let mut blocks = replica_blocks(rng, replicas, block_len);
+    if rng.once_in(12) {
+        blocks.resize(wrong_length(rng, blocks.len(), block_len), 7);
+    }
+    let output_len = output_length(rng, block_len);
+    Vote {
+        blocks,
+        replicas,
+        block_len,
+        output: rng.bytes(output_len),
+    }
+}
+
+fn block_length(rng: &mut Random) -> usize {
+    match rng.below(24) {
+        0 => rng.pick(&[0, 4_097, 5_000]),
+        1 => rng.pick(&[4_095, 4_096, 4_097]),
+        2 => rng.between(1, 4_096),
+        // Next to powers of two, where code that works by strides goes wrong.
+        3 => (1 << rng.between(3, 11)) + rng.below(3) - 1,
+        4..=8 => rng.between(3, 100),
+        9..=15 => 2,
+        _ => 1,
+    }
+}
+
+/// Few distinct contents, which differ in one byte only.
+pub fn replica_blocks(rng: &mut Random, replicas: usize, block_len: usize) -> Vec<u8> {
+    let common = rng.bytes(block_len);
+    let distinct = rng.pick(&[1, 2, 2, 3, 4, 5, 8, 17]);
+    let at = match rng.below(3) {
+        0 => 0,
+        1 => block_len.saturating_sub(1),
+        _ => rng.below(block_len.max(1)),
+    };
+    let mut blocks = Vec::with_capacity(replicas * block_len);
+    for replica in 0..replicas {
+        let mut block = common.clone();
+        let kind = match distinct {
+            17 => replica,
+            _ => rng.below(distinct),
+        };
+        if let Some(byte) = block.get_mut(at) {
+            *byte ^= kind as u8;
+        }
+        blocks.extend(block);
+    }
+    blocks
+}
+
+fn wrong_length(rng: &mut Random, right: usize, block_len: usize) -> usize {
+    rng.pick(&[
+        0,
+        right + 1,
+        right.saturating_sub(1),
+        right + block_len,
+        right.saturating_sub(block_len),
+    ])
+}
+
+fn output_length(rng: &mut Random, block_len: usize) -> usize {
+    match rng.below(14) {
+        0 => block_len.saturating_sub(1),
+        1 => 0,
+        2 => rng.below(block_len + 1),
+        3 => block_len + 1,
+        4 => block_len + rng.below(300),
+        _ => block_len,
+    }
+}
+
+/// Numbers near 2^32, 2^63 and 2^64 beside small buffers; often their product
+/// wraps to the buffer's length.
+fn huge_vote(rng: &mut Random) -> Vote {
+    let small = rng.between(1, 16);
+    let (replicas, block_len) = match rng.below(6) {
+        0 => (rng.pick(&HUGE), small),
+        1 => (small, rng.pick(&HUGE)),
+        2 => (rng.pick(&HUGE), rng.pick(&HUGE)),
+        3 => (small, wrapping_partner(rng, small)),
+        4 => (wrapping_partner(rng, small), small),
+        _ => ((rng.below(3) << 32) + 3, (rng.below(3) << 32) + small),
+    };
+    let product = replicas.wrapping_mul(block_len);
+    let low = (replicas & 0xFF) * (block_len & 0xFF);
+    let len = if product <= 256 { product } else { low % 4_096 };
+    let output_len = rng.below(64);
+    Vote {
+        blocks: vec![rng.byte(); len],
+        replicas,
+        block_len,
+        output: rng.bytes(output_len),
+    }
+}
+
+/// A number that multiplied by `small` just passes 2^64.
+fn wrapping_partner(rng: &mut Random, small: usize) -> usize {
+    let quotient = (1u128 << 64).div_ceil(small as u128);
+    (quotient as usize).wrapping_add(rng.below(8))
+}
