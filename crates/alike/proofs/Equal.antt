@@ -1,6 +1,6 @@
 -- Lists are alike where they are equal.
 use Prim.Native.Nat.{ℕ}
-use mathlib.Core.Path.{_≡_, refl, sym, ap, _∙_}
+use mathlib.Core.Path.{_≡_, refl, sym}
 use mathlib.Core.Bool.{Bool, true, false, _&&_}
 use mathlib.Core.List.{List, [], _∷_}
 use lib.Dec.{eqb}
@@ -25,11 +25,8 @@ alike-equal (x ∷ xs) (y ∷ ys) h = go (eqb x y) refl h (alike-equal xs ys)
     go true e h rest = cc (eqb-true x y e, rest h)
     go false e h rest = cc
 
--- a test that tells whether two lists are equal tells whether they are alike
-pub same-told : (a b : List ℕ) (r : Bool) → (r ≡ true → a ≡ b) → (a ≡ b → r ≡ true) → r ≡ alike a b
-same-told a b true sound complete = sym (ap (alike a) (sym (sound refl)) ∙ alike-self a)
-same-told a b false sound complete = go (alike a b) refl
-  where
-    go : (t : Bool) → alike a b ≡ t → false ≡ t
-    go true e = complete (alike-equal a b e)
-    go false e = refl
+-- two truths that follow from each other are one
+pub same-truth : (s t : Bool) → (s ≡ true → t ≡ true) → (t ≡ true → s ≡ true) → s ≡ t
+same-truth true t f g = sym (f refl)
+same-truth false true f g = g refl
+same-truth false false f g = refl

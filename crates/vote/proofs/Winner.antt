@@ -7,13 +7,13 @@ use native.Mathlib.Omega.{arith}
 use mathlib.Core.Path.{_≡_, refl, sym, ap, _∙_}
 use mathlib.Core.Bool.{Bool, true, false, cond}
 use mathlib.Core.List.{List, [], _∷_}
-use lib.ListN.{length, getD, take, drop, length-take, length-drop, drop-of-length-le}
-use lib.Seq.{drop-cons, getD-take}
+use lib.ListN.{length, getD, drop, length-drop}
+use lib.Seq.{drop-cons, getD-drop}
 use lib.Pow.{pow-mono}
 use lib.Dec.{ltb}
 use borrow.Author.Tests.{lt-ltb, le-ltb}
-use Rattle.search.specs.Tabulate.{tabulate}
 use Rattle.vote.specs.Decide.{digits, leader, votes, maskOf}
+use Rattle.vote.specs.Groups.{Counted}
 
 -- ---- digits
 
@@ -40,61 +40,54 @@ mask-bit (b ∷ row) (suc r) =
     let half : (cond b 1 0 + 2 * digits 2 row) / 2 ≡ digits 2 row = omega (arith, digit-le b) in
     rw (pow-succ', ← div-div-eq-div-mul, half) (mask-bit row r)
 
--- a tabulated row that says yes to none after the first n
-pub digits-front : (base : ℕ) (f : ℕ → Bool) (i n m : ℕ) → ((j : ℕ) → i + n ≤ j → f j ≡ false)
-    → digits base (take n (tabulate f i m)) ≡ digits base (tabulate f i m)
-unfolding digits tabulate
-digits-front base f i zero zero h = refl
-digits-front base f i zero (suc m) h =
-    rw (h i (omega arith), ← digits-front base f (suc i) zero m (λ j l. h j (omega arith)), mul-zero)
-digits-front base f i (suc n) zero h = refl
-digits-front base f i (suc n) (suc m) h = rw (digits-front base f (suc i) n m (λ j l. h j (omega arith)))
+-- a row that says yes to none
+digits-none : (base : ℕ) (row : List Bool) → ((j : ℕ) → getD row j false ≡ false) → digits base row ≡ 0
+unfolding digits
+digits-none base [] h = refl
+digits-none base (b ∷ row) h = rw (h 0, digits-none base row (λ j. h (suc j)), mul-zero)
 
--- the digits of the first n of a row, from replica i on
+-- the digits of a row from replica i on, which is one of the first n
 pub record Summed (base : ℕ) (row : List Bool) (n sum i : ℕ) : Type 0 where
   pub within : i ≤ n
-  pub so-far : sum ≡ digits base (drop i (take n row))
+  pub so-far : sum ≡ digits base (drop i row)
 
 module _ {base : ℕ} {row : List Bool} {n : ℕ} where
-  -- none summed yet
-  pub summed-none : Summed base row n 0 n
-  unfolding digits
-  summed-none =
-      let l : length (take n row) ≤ n = simp length-take (omega arith) in
-      record { within = omega arith; so-far = rw (drop-of-length-le (take n row) l) }
+  -- none summed yet, as there are none past the first n
+  pub summed-none : ((j : ℕ) → n ≤ j → getD row j false ≡ false) → Summed base row n 0 n
+  summed-none h =
+      record {
+        within = omega arith;
+        so-far = sym (digits-none base (drop n row) (λ j. getD-drop n row j false ∙ h (n + j) (omega arith)));
+      }
 
   module _ {sum i : ℕ} (s : Summed base row n sum i) where
     -- the next sum fits
-    pub summed-fits : base ≤ 2 → n ≤ 16 → base * sum + 1 < 2 ^ 32
+    pub summed-fits : base ≤ 2 → length row ≤ 16 → base * sum + 1 < 2 ^ 32
     summed-fits h l =
-        let few : 2 ^ length (drop i (take n row)) ≤ 2 ^ 16 =
-        pow-mono {j = 16} (simp (length-drop, length-take) (omega arith)) in
+        let few : 2 ^ length (drop i row) ≤ 2 ^ 16 = pow-mono {j = 16} (simp length-drop (omega arith)) in
         let twice : base * sum ≤ 2 * sum = mul-le-mul-right sum h in
-        omega (arith, digits-lt base (drop i (take n row)) h, s .so-far)
+        omega (arith, digits-lt base (drop i row) h, s .so-far)
 
     -- one digit more
     pub summed-more : {next : ℕ} → 0 < i → n ≤ length row → next ≡ cond (getD row (i - 1) false) 1 0 + base * sum
         → Summed base row n next (i - 1)
     unfolding digits
     summed-more h f e =
-        let l : i - 1 < length (take n row) = simp length-take (omega (arith, s .within)) in
         let p : suc (i - 1) ≡ i = omega arith in
-        let digit : getD (take n row) (i - 1) false ≡ getD row (i - 1) false =
-        getD-take n row (i - 1) false (omega (arith, s .within)) in
         record {
           within = omega (arith, s .within);
           so-far =
-              e ∙ rw (s .so-far, drop-cons (take n row) (i - 1) false l, digit, ap (λ (k : ℕ). drop k (take n row)) p);
+              e ∙ rw (s .so-far, drop-cons row (i - 1) false (omega (arith, s .within)), ap (λ (k : ℕ). drop k row) p);
         }
 
     -- all summed
-    pub summed-all : i ≤ 0 → sum ≡ digits base (take n row)
+    pub summed-all : i ≤ 0 → sum ≡ digits base row
     summed-all h = let z : i ≡ 0 = omega arith in rw z at s .so-far
 
 -- ---- the leader
 
 -- the leader is one of those that it leads
-pub leader-le : (table : List (List Bool)) (n : ℕ) → leader table n ≤ n - 1
+leader-le : (table : List (List Bool)) (n : ℕ) → leader table n ≤ n - 1
 unfolding leader
 leader-le table zero = omega arith
 leader-le table (suc n) =
@@ -105,7 +98,7 @@ leader-le table (suc n) =
     go false rest = omega arith
 
 -- replicas without votes do not lead after others
-pub leader-front : (table : List (List Bool)) (k n : ℕ) → 0 < k → k ≤ n
+leader-front : (table : List (List Bool)) (k n : ℕ) → 0 < k → k ≤ n
     → ((i : ℕ) → k ≤ i → i < n → votes (getD table i []) ≡ 0) → leader table n ≡ leader table k
 unfolding leader
 leader-front table k zero h l none = absurd (omega arith)
@@ -158,11 +151,14 @@ module _ {table : List (List Bool)} {k : ℕ} where
         let o = leader-next table i (l .first) (l .has) .1 (rw e at m) in
         rw add-one record { within = omega arith; first = sym (o .0); has = o .1 }
 
-  -- all counted: the leader, which is one of the replicas, with its votes
-  pub led-all : {best top i : ℕ} → Led table k best top i → k ≤ i → 0 < k
-      → (best ≡ leader table k) × (top ≡ votes (getD table best [])) × (best < k)
-  led-all {i = i} l h p =
+  -- all counted: who leads them leads all sixteen
+  pub led-all : {best top i : ℕ} → Led table k best top i → k ≤ i → Counted table k
+      → (best ≡ leader table 16) × (top ≡ votes (getD table best [])) × (best < k)
+  led-all {i = i} l h c =
       let q : i ≡ k = omega (arith, l .within) in
-      let s : i ≡ suc (k - 1) = omega arith in
-      let first : _ ≡ leader table k = rw q at l .first in
-      (first, rw s at l .has, omega (arith, leader-le table k))
+      let s : i ≡ suc (k - 1) = omega (arith, c .some) in
+      let first : _ ≡ leader table k = rw q at l .first in (
+        first ∙ sym (leader-front table k 16 (c .some) (c .few) (λ i a b. digits-none 1 _ (λ j. c .rows i j b a))),
+        rw s at l .has,
+        omega (arith, c .some, leader-le table k),
+      )

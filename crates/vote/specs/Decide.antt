@@ -42,9 +42,12 @@ blockIn outputs p r = take (p .len) (drop (r * p .apart + p .at) outputs)
 abbrev pub agree : List Bool → (ℕ → List ℕ) → ℕ → ℕ → Bool
 agree voting block i j = getD voting i false && getD voting j false && alike (block i) (block j)
 
--- a row for each replica, which says of each other whether the two agree
+-- a row for each replica, which says of each whether the two agree
+abbrev pub row : List Bool → (ℕ → List ℕ) → ℕ → List Bool
+row voting block i = tabulate (agree voting block i) 0 most
+
 abbrev pub agreements : List Bool → (ℕ → List ℕ) → List (List Bool)
-agreements voting block = tabulate (λ i. tabulate (agree voting block i) 0 most) 0 most
+agreements voting block = tabulate (row voting block) 0 most
 
 -- ---- the winner
 

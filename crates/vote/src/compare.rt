@@ -1,14 +1,12 @@
 // Comparing: the table of which two replicas agree.
 ghost use mathlib.Core.Path.{_≡_};
-ghost use Prim.Native.Nat.{_+_, _*_, _<_, _≤_};
+ghost use Prim.Native.Nat.{ℕ, _+_, _*_, _<_, _≤_};
 ghost use mathlib.Core.Bool.{false};
-ghost use lib.ListN.{length, getD};
+ghost use mathlib.Core.Logic.{_↔_};
+ghost use lib.ListN.{length, getD, set};
 ghost use Rattle.search.specs.Tabulate.{tabulate};
-ghost use Rattle.vote.specs.Decide.{blockIn, agreements};
-ghost use Rattle.vote.specs.Groups.{rowOf, Placed, groupOf, groupsOf, instead, together};
-
-// The group of those who do not vote.
-const NOBODY: u8 = 16;
+ghost use Rattle.vote.specs.Decide.{blockIn, agree, agreements};
+ghost use Rattle.vote.specs.Groups.{rowOf, Placed, groupOf, groupsOf, together};
 
 // How many replicas there are, how far apart their outputs lie, and in each the place and the length of the bytes that
 // are compared.
@@ -40,50 +38,59 @@ fn votes(voting: u32, replica: usize) -> bool
     (voting >> replica as u32) % 2 == 1
 }
 
-// A replica that votes is known by the lowest one that votes for the same bytes.
-fn group(outputs: &[u8], voting: u32, p: Places, replica: usize) -> u8
-    requires { ⌜ Placed (rowOf voting) (now outputs) p × (replica < p .replicas) ⌝ }
-    ensures { λ r. ⌜ r ≡ groupOf (rowOf voting) (blockIn (now (outputs .entry)) p) replica ⌝ }
+// Whether two replicas both vote, and for the same bytes.
+fn agree(outputs: &[u8], voting: u32, p: Places, i: usize, j: usize) -> bool
+    requires { ⌜ Placed (rowOf voting) (now outputs) p × (i < p .replicas) × (j < p .replicas) ⌝ }
+    ensures { λ r. ⌜ r ≡ agree (rowOf voting) (blockIn (now (outputs .entry)) p) i j ⌝ }
 {
-    if !votes(voting, replica) {
-        return NOBODY;
+    if !votes(voting, i) {
+        return false;
     }
-    let own = block(outputs, p, replica);
-    let mut i: usize = 0;
-    while i < replica {
-        if votes(voting, i) {
-            if alike::same(block(outputs, p, i), own) {
-                return i as u8;
-            }
-        }
-        i += 1;
+    if !votes(voting, j) {
+        return false;
     }
-    replica as u8
+    alike::same(block(outputs, p, i), block(outputs, p, j))
 }
 
-// Every entry anew, and not one store: a vector that is loaded from bytes just stored waits for them.
-fn replaced(old: [u8; 16], a: u8, b: u8) -> [u8; 16]
-    ensures { λ r. ⌜ r ≡ tabulate (λ j. instead a b (getD old j 0)) 0 16 ⌝ }
+fn group(outputs: &[u8], voting: u32, p: Places, i: usize) -> usize
+    requires { ⌜ Placed (rowOf voting) (now outputs) p × (i < p .replicas) ⌝ }
+    ensures { λ r. ⌜ r ≡ groupOf (rowOf voting) (blockIn (now (outputs .entry)) p) i ⌝ }
+{
+    let mut r: usize = 0;
+    while r < i {
+        if agree(outputs, voting, p, r, i) {
+            return r;
+        }
+        r += 1;
+    }
+    i
+}
+
+// The groups with another one for replica i, which is found by its number. Every entry is made anew, since a vector that
+// is loaded from bytes just stored waits for them.
+fn regrouped(old: [u8; 16], i: u8, group: u8) -> [u8; 16]
+    requires { ⌜ ((j : ℕ) → j < 16 → (getD old j 0 ≡ i) ↔ (j ≡ i)) ⌝ }
+    ensures { λ r. ⌜ r ≡ set old i group ⌝ }
 {
     let mut out = [0u8; 16];
     let mut j: usize = 0;
     while j < 16 {
-        out[j] = if old[j] == a { b } else { old[j] };
+        out[j] = if old[j] == i { group } else { old[j] };
         j += 1;
     }
     out
 }
 
-// Two agree where their groups are one, and a replica is compared with earlier ones only until one agrees. A replica
-// that was not looked at yet is its own group.
+// Two that vote agree where their groups are one, and a replica is compared with earlier ones only until one agrees. A
+// replica that was not looked at yet is its own group.
 fn groups(outputs: &[u8], voting: u32, p: Places) -> [u8; 16]
     requires { ⌜ Placed (rowOf voting) (now outputs) p ⌝ }
-    ensures { λ r. ⌜ r ≡ groupsOf (rowOf voting) (blockIn (now (outputs .entry)) p) (p .replicas) ⌝ }
+    ensures { λ r. ⌜ r ≡ groupsOf (rowOf voting) (blockIn (now (outputs .entry)) p) ⌝ }
 {
     let mut out = [0u8, 1, 2, 3, 4, 5, 6, 7, 8, 9, 10, 11, 12, 13, 14, 15];
-    let mut i: usize = 0;
+    let mut i: usize = 1;
     while i < p.replicas {
-        let next = replaced(out, i as u8, group(outputs, voting, p, i));
+        let next = regrouped(out, i as u8, group(outputs, voting, p, i) as u8);
         out = next;
         i += 1;
     }

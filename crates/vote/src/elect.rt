@@ -1,9 +1,12 @@
 // Counting: the winner of a table of which two replicas agree.
+use crate::compare;
+use crate::compare::Places;
 ghost use mathlib.Core.Path.{_≡_};
-ghost use Prim.Native.Nat.{_≤_, _<_};
-ghost use lib.ListN.{take};
-ghost use Rattle.vote.specs.Decide.{digits};
-ghost use Rattle.vote.specs.Groups.{electedOf};
+ghost use Prim.Native.Nat.{ℕ, _≤_, _<_};
+ghost use mathlib.Core.Bool.{false};
+ghost use lib.ListN.{getD};
+ghost use Rattle.vote.specs.Decide.{blockIn, agreements, digits};
+ghost use Rattle.vote.specs.Groups.{rowOf, Placed, Counted, electedOf};
 
 // A replica with most votes, how many these are, and whose.
 pub struct Elected {
@@ -12,12 +15,10 @@ pub struct Elected {
     pub mask: u32,
 }
 
-// The first n replicas of a row as digits in base 1, which counts them, or in base 2, which is their mask.
+// A row as digits in base 1, which counts its replicas, or in base 2, which is their mask. It has none past the first n.
 fn digits(row: [bool; 16], base: u32, n: usize) -> u32
-    requires { ⌜ (base ≤ 2) × (n ≤ 16) ⌝ }
-    ensures { λ r. ⌜ r ≡ digits base (take n row) ⌝ }
-    // For those who count all: a row's length is in its type, and no other clause says it.
-    ensures whole { λ _. ⌜ take 16 row ≡ row ⌝ }
+    requires { ⌜ (base ≤ 2) × (n ≤ 16) × ((j : ℕ) → n ≤ j → getD row j false ≡ false) ⌝ }
+    ensures { λ r. ⌜ r ≡ digits base row ⌝ }
 {
     let mut sum: u32 = 0;
     let mut i = n;
@@ -32,9 +33,9 @@ fn digits(row: [bool; 16], base: u32, n: usize) -> u32
 }
 
 // The lowest-numbered replica among those with most votes.
-pub fn winner(table: [[bool; 16]; 16], replicas: usize) -> Elected
-    requires { ⌜ (0 < replicas) × (replicas ≤ 16) ⌝ }
-    ensures { λ r. ⌜ r ≡ electedOf table replicas ⌝ }
+fn winner(table: [[bool; 16]; 16], replicas: usize) -> Elected
+    requires { ⌜ Counted table replicas ⌝ }
+    ensures { λ r. ⌜ (r ≡ electedOf table) × (r .replica < replicas) ⌝ }
 {
     let mut best: usize = 0;
     let mut most: u32 = 0;
@@ -54,4 +55,13 @@ pub fn winner(table: [[bool; 16]; 16], replicas: usize) -> Elected
         count: most,
         mask: digits(row, 2, replicas),
     }
+}
+
+// The winner among those who vote, a bit each, and for what.
+pub fn elect(outputs: &[u8], voting: u32, p: Places) -> Elected
+    requires { ⌜ Placed (rowOf voting) (now outputs) p ⌝ }
+    ensures { λ r.
+        ⌜ (r ≡ electedOf (agreements (rowOf voting) (blockIn (now (outputs .entry)) p))) × (r .replica < p .replicas) ⌝ }
+{
+    winner(compare::agreements(outputs, voting, p), p.replicas)
 }

@@ -69,8 +69,7 @@ pub fn vote(blocks: &[u8], replicas: usize, block_len: usize, output: &mut [u8])
         at: 0,
         len: block_len,
     };
-    let table = compare::agreements(blocks, first(replicas), side_by_side);
-    let winner = elect::winner(table, replicas);
+    let winner = elect::elect(blocks, first(replicas), side_by_side);
     if winner.count < 2 {
         return Verdict::Refused(Refusal::NoAgreement);
     }

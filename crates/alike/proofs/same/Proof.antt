@@ -3,12 +3,13 @@ use mathlib.Core.Path.{sym, ap}
 use mathlib.Core.Bool.{true≢false}
 use lib.ListN.{length}
 use borrow.Author.Needs.{needs}
-use Rattle.alike.proofs.Equal.{same-told}
+use Rattle.alike.proofs.Equal.{alike-equal, same-truth}
 use Rattle.alike.proofs.same.Statement.{statement}
 use Rattle.alike.proofs.same.Tie as tie
 
 returns : tie.Need-returns
-returns c = same-told _ _ _ (λ e. absurd (true≢false (sym e))) (λ e. absurd (c .if1 .taken (ap length e)))
+returns c =
+    same-truth _ _ (λ e. absurd (true≢false (sym e))) (λ e. absurd (c .if1 .taken (ap length (alike-equal _ _ e))))
 
 same-by-requires : tie.Need-same-by-requires
 same-by-requires c κs = search needs

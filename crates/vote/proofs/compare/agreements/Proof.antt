@@ -3,9 +3,9 @@ use Prim.Native.Nat.{_-_, _<_}
 use native.Mathlib.Omega.{arith}
 use mathlib.Core.Path.{_≡_}
 use mathlib.Core.Bool.{false}
+use mathlib.Core.List.{[]}
 use lib.ListN.{replicate}
-use Rattle.search.specs.Tabulate.{tabulate}
-use Rattle.vote.specs.Decide.{blockIn, agree}
+use Rattle.vote.specs.Decide.{blockIn, row}
 use Rattle.vote.specs.Groups.{rowOf}
 use Rattle.vote.proofs.Tables.{Filled, filled-none, filled-more, filled-all}
 use Rattle.vote.proofs.Comparing.{agree-row, alone}
@@ -14,8 +14,7 @@ use Rattle.vote.proofs.compare.agreements.Tie as tie
 
 abbrev Inv-loop : tie.InvT-loop
 Inv-loop outputs voting p groups out₀ i₀ out i =
-    Filled (λ r. tabulate (agree (rowOf voting) (blockIn outputs p) r) 0 16) (replicate 16 false) out i
-    × (i < p .replicas)
+    Filled (row (rowOf voting) (blockIn outputs p)) (λ _. replicate 16 false) out i × (i < p .replicas)
 
 abbrev μ-loop : tie.MeasureT-loop
 μ-loop outputs voting p groups out₀ i₀ out i = p .replicas - i
@@ -23,12 +22,10 @@ abbrev μ-loop : tie.MeasureT-loop
 -- the next row
 next : (c : tie.After-row Inv-loop μ-loop)
     → let a = c .before .before .before .before .args in
-    c .row .result ≡ tabulate (agree (rowOf (a .voting)) (blockIn (a .outputs .now) (a .p)) (c .before .loop .i)) 0 16
+    c .row .result ≡ row (rowOf (a .voting)) (blockIn (a .outputs .now) (a .p)) (c .before .loop .i)
 next c =
-    let start = c .before .before .before .before in
-    let a = start .args in
-    agree-row (rowOf (a .voting)) (blockIn (a .outputs .now) (a .p)) (a .p .replicas) (start .pre .none-past) (omega arith) (omega arith)
-    (c .before .before .groups .ensures) (c .row .ensures)
+    let a = c .before .before .before .before .args in
+    agree-row (rowOf (a .voting)) (blockIn (a .outputs .now) (a .p)) (omega arith) (c .before .before .groups .ensures) (c .row .ensures)
 
 groups-requires : tie.Need-groups-requires Inv-loop μ-loop
 groups-requires c κs = c .before .pre
@@ -53,7 +50,7 @@ returns c =
     let start = c .before .before .before .before .before .before in
     let a = start .args in
     let all = filled-more (c .before .before .before .loop .inv .0) (omega arith) (next (c .before .before)) in
-    filled-all all (λ j l m. alone (rowOf (a .voting)) (blockIn (a .outputs .now) (a .p)) j (start .pre .none-past j (omega arith)))
+    filled-all all [] (λ j l m. alone (rowOf (a .voting)) (blockIn (a .outputs .now) (a .p)) j (start .pre .none-past j (omega arith)))
 
 loop-less : tie.Need-loop-less Inv-loop μ-loop
 loop-less c = omega arith

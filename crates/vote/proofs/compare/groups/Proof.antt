@@ -1,32 +1,37 @@
 -- `groups` meets its contract. The loop's invariant: the replicas before this one are in their groups.
 use Prim.Native.Nat.{_-_, _≤_}
 use native.Mathlib.Omega.{arith}
-use mathlib.Core.Path.{_≡_}
 use Rattle.vote.specs.Decide.{blockIn}
-use Rattle.vote.specs.Groups.{rowOf, groupsOf}
-use Rattle.vote.proofs.Comparing.{grouped-none, grouped-more, grouped-all}
+use Rattle.vote.specs.Groups.{rowOf, groupOf}
+use Rattle.vote.proofs.Tables.{Filled, filled-more, filled-all}
+use Rattle.vote.proofs.Comparing.{group-le, group-out, groups-none, groups-own}
 use Rattle.vote.proofs.compare.groups.Statement.{statement}
 use Rattle.vote.proofs.compare.groups.Tie as tie
 
 abbrev Inv-loop : tie.InvT-loop
-Inv-loop outputs voting p out₀ i₀ out i = (out ≡ groupsOf (rowOf voting) (blockIn outputs p) i) × (i ≤ p .replicas)
+Inv-loop outputs voting p out₀ i₀ out i = Filled (groupOf (rowOf voting) (blockIn outputs p)) (λ j. j) out i
 
 abbrev μ-loop : tie.MeasureT-loop
 μ-loop outputs voting p out₀ i₀ out i = p .replicas - i
 
 loop-holds : tie.Need-loop-holds Inv-loop μ-loop
-loop-holds c =
-    let a = c .before .args in
-    (grouped-none (rowOf (a .voting)) (blockIn (a .outputs .now) (a .p)), omega arith)
+loop-holds c = let a = c .before .args in groups-none (rowOf (a .voting)) (blockIn (a .outputs .now) (a .p))
 
-cast-replaced : tie.Need-cast-replaced Inv-loop μ-loop
-cast-replaced c = omega arith
+cast-regrouped : tie.Need-cast-regrouped Inv-loop μ-loop
+cast-regrouped c = omega arith
 
 group-requires : tie.Need-group-requires Inv-loop μ-loop
 group-requires c κs = (c .before .before .before .before .pre, omega arith)
 
-replaced-requires : tie.Need-replaced-requires Inv-loop μ-loop
-replaced-requires c κs = omega arith
+cast-regrouped-2 : tie.Need-cast-regrouped-2 Inv-loop μ-loop
+cast-regrouped-2 c =
+    let a = c .before .before .before .before .before .args in
+    omega (arith, c .group .ensures, group-le (rowOf (a .voting)) (blockIn (a .outputs .now) (a .p)) (c .before .before .before .loop .i))
+
+regrouped-requires : tie.Need-regrouped-requires Inv-loop μ-loop
+regrouped-requires c κs =
+    let a = c .before .before .before .before .before .args in
+    groups-own (rowOf (a .voting)) (blockIn (a .outputs .now) (a .p)) (c .before .before .before .loop .inv)
 
 add-i : tie.Need-add-i Inv-loop μ-loop
 add-i c = omega arith
@@ -36,16 +41,14 @@ loop-less c = omega arith
 
 loop-again : tie.Need-loop-again Inv-loop μ-loop
 loop-again c =
-    let a = c .before .before .before .before .before .before .args in
-    let l = c .before .before .before .before .loop in
-    let more = grouped-more (rowOf (a .voting)) (blockIn (a .outputs .now) (a .p)) (omega arith) (l .inv .0) in
-    (more (c .before .group .ensures) (c .replaced .ensures), omega arith)
+    rw (c .regrouped .ensures) (filled-more (c .before .before .before .before .loop .inv) (omega arith) (c .before .group .ensures))
 
 returns : tie.Need-returns Inv-loop μ-loop
 returns c =
-    let a = c .before .before .before .before .args in
-    let l = c .before .before .loop in
-    grouped-all (rowOf (a .voting)) (blockIn (a .outputs .now) (a .p)) (l .inv .0) (l .inv .1) (omega arith)
+    let start = c .before .before .before .before in
+    let a = start .args in
+    filled-all (c .before .before .loop .inv) 0
+    (λ j l m. group-out (rowOf (a .voting)) (blockIn (a .outputs .now) (a .p)) j (start .pre .none-past j (omega arith)))
 
 pub groups-spec : {M : Type 1} → statement M
 groups-spec =
@@ -54,9 +57,10 @@ groups-spec =
     Inv-loop
     μ-loop
     loop-holds
-    cast-replaced
+    cast-regrouped
     group-requires
-    replaced-requires
+    cast-regrouped-2
+    regrouped-requires
     add-i
     loop-less
     loop-again

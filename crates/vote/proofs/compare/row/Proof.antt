@@ -6,12 +6,11 @@ use mathlib.Core.Bool.{false}
 use borrow.Author.Tests.{not-true, not-false}
 use Rattle.vote.specs.Groups.{rowOf, together}
 use Rattle.vote.proofs.Tables.{Filled, filled-none, filled-more, filled-all}
-use Rattle.vote.proofs.Comparing.{apart}
 use Rattle.vote.proofs.compare.row.Statement.{statement}
 use Rattle.vote.proofs.compare.row.Tie as tie
 
 abbrev Inv-loop : tie.InvT-loop
-Inv-loop voting i groups out₀ own j₀ out j = Filled (together (rowOf voting) groups i) false out j
+Inv-loop voting i groups out₀ own j₀ out j = Filled (together (rowOf voting) groups i) (λ _. false) out j
 
 abbrev μ-loop : tie.MeasureT-loop
 μ-loop voting i groups out₀ own j₀ out j = 16 - j
@@ -21,8 +20,8 @@ votes-requires c κs = omega arith
 
 returns : tie.Need-returns Inv-loop μ-loop
 returns c =
-    let a = c .before .before .args in
-    apart (rowOf (a .voting)) (a .t1) (a .i) (sym (c .before .votes .ensures) ∙ not-true _ (c .if1 .taken))
+    let out = sym (c .before .votes .ensures) ∙ not-true _ (c .if1 .taken) in
+    filled-all filled-none false (λ j l m. rw out)
 
 array-read-own : tie.Need-array-read-own Inv-loop μ-loop
 array-read-own c = omega arith
@@ -48,7 +47,7 @@ loop-again c =
     filled-more (c .before .loop .inv) (omega arith) (rw in-it)
 
 returns-2 : tie.Need-returns-2 Inv-loop μ-loop
-returns-2 c = filled-all (c .before .loop .inv) (λ j l m. absurd (omega arith))
+returns-2 c = filled-all (c .before .loop .inv) false (λ j l m. absurd (omega arith))
 
 pub row-spec : {M : Type 1} → statement M
 row-spec =

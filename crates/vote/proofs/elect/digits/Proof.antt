@@ -1,6 +1,5 @@
 -- `digits` meets its contract. The loop's invariant: the digits from `i` on are summed up.
 use native.Mathlib.Omega.{arith}
-use lib.Seq.{take-all}
 use Rattle.vote.proofs.Winner.{Summed, summed-none, summed-fits, summed-more, summed-all}
 use Rattle.vote.proofs.elect.digits.Statement.{statement}
 use Rattle.vote.proofs.elect.digits.Tie as tie
@@ -12,7 +11,7 @@ abbrev μ-loop : tie.MeasureT-loop
 μ-loop base n row sum₀ i₀ sum i = i
 
 loop-holds : tie.Need-loop-holds Inv-loop μ-loop
-loop-holds c = summed-none
+loop-holds c = summed-none (c .pre .2)
 
 sub-i : tie.Need-sub-i Inv-loop μ-loop
 sub-i c = omega arith
@@ -40,7 +39,7 @@ loop-again-2 c =
     summed-more (c .before .before .loop .inv) (omega arith) (omega arith) (rw (c .if1 .left) (omega arith))
 
 returns : tie.Need-returns Inv-loop μ-loop
-returns c = (summed-all (c .before .loop .inv) (omega arith), take-all 16 _ (omega arith))
+returns c = summed-all (c .before .loop .inv) (omega arith)
 
 pub digits-spec : {M : Type 1} → statement M
 digits-spec =

@@ -1,9 +1,7 @@
 -- `winner` meets its contract. The loop's invariant: the leader of the replicas passed, with its votes.
 use Prim.Native.Nat.{_-_, _<_}
 use native.Mathlib.Omega.{arith}
-use mathlib.Core.Path.{ap, _∙_}
 use mathlib.Core.Logic.{⊎-elim}
-use Rattle.vote.specs.Decide.{digits}
 use Rattle.vote.proofs.Winner.{Led, led-none, led-new, led-old, led-all}
 use Rattle.vote.proofs.elect.winner.Statement.{statement}
 use Rattle.vote.proofs.elect.winner.Tie as tie
@@ -16,7 +14,7 @@ abbrev μ-loop : tie.MeasureT-loop
 
 -- the leader is one of the replicas
 leads : (c : tie.After-loop Inv-loop μ-loop) → c .before .loop .best < 16
-leads c = omega (arith, led-all (c .before .loop .inv) (omega arith) (omega arith))
+leads c = omega (arith, led-all (c .before .loop .inv) (omega arith) (c .before .before .pre))
 
 loop-holds : tie.Need-loop-holds Inv-loop μ-loop
 loop-holds c = led-none
@@ -28,7 +26,7 @@ array-copy-out-row : tie.Need-array-copy-out-row Inv-loop μ-loop
 array-copy-out-row c = omega arith
 
 digits-requires : tie.Need-digits-requires Inv-loop μ-loop
-digits-requires c κs = omega arith
+digits-requires c κs = (omega arith, omega arith, λ j l. c .before .before .before .pre .columns _ j (omega arith) (omega arith))
 
 add-i : tie.Need-add-i Inv-loop μ-loop
 add-i c = omega arith
@@ -39,7 +37,7 @@ loop-less c = omega arith
 loop-again : tie.Need-loop-again Inv-loop μ-loop
 loop-again c =
     let l = c .before .before .before .before .loop .inv in
-    let e = c .before .digits .ensures .0 ∙ ap (digits 1) (c .before .digits .ensures .1) in
+    let e = c .before .digits .ensures in
     ⊎-elim
     (λ w. rw (w .1, w .2) (led-new l (omega arith) e (omega arith)))
     (λ w. rw (w .1, w .2) (led-old l (omega arith) e (omega arith)))
@@ -52,12 +50,12 @@ array-copy-out-row-2 : tie.Need-array-copy-out-row-2 Inv-loop μ-loop
 array-copy-out-row-2 c = omega (arith, leads c)
 
 digits-requires-2 : tie.Need-digits-requires-2 Inv-loop μ-loop
-digits-requires-2 c κs = omega arith
+digits-requires-2 c κs = (omega arith, omega arith, λ j l. c .before .before .before .pre .columns _ j (leads (c .before)) l)
 
 returns : tie.Need-returns Inv-loop μ-loop
 returns c =
-    let l = led-all (c .before .before .before .loop .inv) (omega arith) (omega arith) in
-    rw (c .digits2 .ensures .0, l .1, l .0)
+    let l = led-all (c .before .before .before .loop .inv) (omega arith) (c .before .before .before .before .pre) in
+    (rw (c .digits2 .ensures, l .1, l .0), l .2)
 
 pub winner-spec : {M : Type 1} → statement M
 winner-spec =
