@@ -2,7 +2,7 @@
 use line::Line;
 use numbers::least;
 ghost use mathlib.Core.Path.{_≡_};
-ghost use mathlib.Core.Bool.{true};
+ghost use mathlib.Core.Bool.{true, cond};
 ghost use Prim.Native.Nat.{_+_, _≤_};
 ghost use lib.ListN.{length, drop};
 ghost use Rattle.writing.specs.Overwrite.{overwrite};
@@ -39,19 +39,20 @@ pub struct Turn {
     pub messages: usize,
 }
 
-fn fits(len: usize, number: u64, out: usize, errors: usize) -> bool
-    ensures { λ r. ⌜ r ≡ fits len number out errors ⌝ }
+// How many bytes of a text are read: all, or none where there may be no room for what they come to.
+fn admitted_len(len: usize, number: u64, out: usize, errors: usize) -> usize
+    ensures { λ r. ⌜ (r ≡ cond (fits len number out errors) len 0) × (r ≤ len) ⌝ }
 {
     if out / request::SIZE < len {
-        return false;
+        return 0;
     }
     if errors / MESSAGE < len {
-        return false;
+        return 0;
     }
     if u64::MAX - number < len as u64 {
-        return false;
+        return 0;
     }
-    true
+    len
 }
 
 // Writes the request that a line asks for, if any, and answers the place after it.
@@ -145,21 +146,14 @@ pub fn assemble(
     ensures { λ r. ⌜ r .messages ≤ length (now (errors .exit)) ⌝ }
 {
     let end = gather(input, kept, got);
-    if fits(end, number, out.len(), errors.len()) {
-        let done = assemble_lines(&input[0..end], number, out, errors);
-        let count = least(START, end - done.used);
-        let left = writing::shift(input, done.used, count);
-        return Turn {
-            kept: left,
-            next: done.next,
-            requests: done.requests,
-            messages: done.messages,
-        };
-    }
+    let len = admitted_len(end, number, out.len(), errors.len());
+    let done = assemble_lines(&input[0..len], number, out, errors);
+    let count = least(START, len - done.used);
+    let left = writing::shift(input, done.used, count);
     Turn {
-        kept: 0,
-        next: number,
-        requests: 0,
-        messages: 0,
+        kept: left,
+        next: done.next,
+        requests: done.requests,
+        messages: done.messages,
     }
 }

@@ -1,16 +1,16 @@
--- `assemble` does one turn, where there is room and where there may be none.
+-- `assemble` does one turn.
 use borrow.Author.Needs.{needs}
 use native.Mathlib.Omega.{arith}
 use lib.ListN.{drop, length-take}
-use Rattle.assembly.proofs.Turning.{room-left, no-turn, a-turn}
+use Rattle.assembly.proofs.Turning.{room-for, a-turn}
 use Rattle.assembly.proofs.assemble.Statement.{statement}
 use Rattle.assembly.proofs.assemble.Tie as tie
 
 gather-requires : tie.Need-gather-requires
 gather-requires c κs = search needs
 
-fits-requires : tie.Need-fits-requires
-fits-requires c κs = search needs
+admitted-len-requires : tie.Need-admitted-len-requires
+admitted-len-requires c κs = search needs
 
 sub-assemble-lines : tie.Need-sub-assemble-lines
 sub-assemble-lines c = search needs
@@ -23,11 +23,11 @@ part-assemble-lines-end c = search needs
 
 assemble-lines-requires : tie.Need-assemble-lines-requires
 assemble-lines-requires c κs =
-    let tested = c .before .before .before .before in
-    let gathered = tested .before .before .before .before in
+    let admitted = c .before .before .before .before in
+    let gathered = admitted .before .before .before in
     let a = gathered .before .before .before .before .before .args in
-    room-left (a .input .now) (a .kept) (a .got) (a .number) (a .out .now) (a .errors .now) (gathered .gather .ensures)
-    (tested .before .fits2 .ensures) (tested .if1 .taken)
+    room-for (a .input .now) (a .kept) (a .got) (a .number) (a .out .now) (a .errors .now) (gathered .gather .ensures)
+    (admitted .admitted-len .ensures) (omega arith)
 
 sub-least : tie.Need-sub-least
 sub-least c = search needs
@@ -52,27 +52,14 @@ returns c =
     let shifted = c .before .before in
     let counted = shifted .before .before in
     let read = counted .before .before .before .before .before .before in
-    let tested = read .before .before .before .before .before in
-    let gathered = tested .before .before .before .before in
+    let admitted = read .before .before .before .before .before in
+    let gathered = admitted .before .before .before in
     let a = gathered .before .before .before .before .before .args in
     let e = read .assemble-lines .ensures in
     let n = counted .least in
-    let s = shifted .shift .ensures in
     let few = length-take (n .result) (drop (read .assemble-lines .result .used) (gathered .gather .last .0)) in (
       a-turn (a .input .now) (a .kept) (a .got) (a .number) (a .out .now) (a .errors .now) (gathered .gather .ensures)
-          (tested .before .fits2 .ensures) (tested .if1 .taken) (e .0) (e .1 .0) (n .ensures) s (e .1 .1 .1),
-      ((omega arith, omega arith), omega arith),
-    )
-
-same-length-4 : tie.Need-same-length-4
-same-length-4 c = search needs
-
-returns-2 : tie.Need-returns-2
-returns-2 c =
-    let gathered = c .before .before .before .before in
-    let a = gathered .before .before .before .before .before .args in (
-      no-turn (a .input .now) (a .kept) (a .got) (a .number) (a .out .now) (a .errors .now) (gathered .gather .ensures)
-          (c .before .fits2 .ensures) (c .if1 .left),
+          (admitted .admitted-len .ensures) (e .0) (e .1 .0) (n .ensures) (shifted .shift .ensures) (e .1 .1 .1),
       ((omega arith, omega arith), omega arith),
     )
 
@@ -81,7 +68,7 @@ assemble-spec =
     tie.close
     (tie.spec
     gather-requires
-    fits-requires
+    admitted-len-requires
     sub-assemble-lines
     part-assemble-lines-start
     part-assemble-lines-end
@@ -92,6 +79,4 @@ assemble-spec =
     same-length
     same-length-2
     same-length-3
-    returns
-    same-length-4
-    returns-2)
+    returns)

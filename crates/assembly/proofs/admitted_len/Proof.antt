@@ -1,9 +1,9 @@
--- `fits` tells by division whether there is room.
+-- `admitted_len` tells by division whether there is room.
 use native.Mathlib.Omega.{arith}
 use Rattle.assembly.proofs.Room.{short-output, short-errors, short-numbers, room}
 use borrow.Author.Needs.{needs}
-use Rattle.assembly.proofs.fits.Statement.{statement}
-use Rattle.assembly.proofs.fits.Tie as tie
+use Rattle.assembly.proofs.admitted_len.Statement.{statement}
+use Rattle.assembly.proofs.admitted_len.Tie as tie
 
 returns : tie.Need-returns
 returns c =
@@ -28,5 +28,5 @@ returns-4 c =
     let a = c .before .before .before .args in
     room (a .len) (a .number) (a .out) (a .errors) (omega arith) (omega arith) (omega arith)
 
-pub fits-spec : {M : Type 1} → statement M
-fits-spec = tie.close (tie.spec returns returns-2 sub-if3 returns-3 returns-4)
+pub admitted-len-spec : {M : Type 1} → statement M
+admitted-len-spec = tie.close (tie.spec returns returns-2 sub-if3 returns-3 returns-4)
