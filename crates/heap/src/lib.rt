@@ -12,9 +12,9 @@ use answer::Refusal;
 use geometry::Layout;
 use judge::Judged;
 use mwc::Generator;
-pub use reading::Looked;
 use request::Parsed;
 use request::Request;
+use view::Looked;
 ghost use mathlib.Core.Path.{_≡_};
 ghost use lib.ListN.{length};
 ghost use Rattle.answer.specs.Reply.{replyOf};
@@ -24,7 +24,7 @@ ghost use Rattle.judge.specs.Judge.{Fits};
 ghost use Rattle.rules.specs.Open.{setup};
 ghost use Rattle.rules.specs.Serve.{lentWith, perform, act};
 ghost use Rattle.rules.specs.Call.{calledBy, serve, reading, opening};
-ghost use Rattle.heap.specs.Looked.{answerOf, viewShown};
+ghost use Rattle.view.specs.Looked.{answerOf, viewShown};
 
 // Writes fresh metadata for a heap of this length, and the canary into every slot.
 pub fn open(heap: &mut [u8], metadata: &mut [u8], z: u32, w: u32, canary: u32) -> Answer
@@ -144,8 +144,6 @@ pub fn read<'a>(
         × (now r ≡ viewBytes (called .view) (now (heap .entry)) (now (page .entry)))
         × (length (now r) ≡ called .answer .value) ⌝ }
 {
-    match look(heap, metadata, offset, count, page) {
-        Looked::Refused(_) => &page[0..0],
-        Looked::Shown(view) => view::bytes(view, heap, page),
-    }
+    let looked = look(heap, metadata, offset, count, page);
+    view::bytes(looked.view(), heap, page)
 }

@@ -1,10 +1,14 @@
 // What a read shows, and these bytes where they lie: nothing is copied.
+use answer::Answer;
+use answer::Refusal;
 use numbers::least;
 use numbers::wide;
 use slices::between;
 ghost use mathlib.Core.Path.{_≡_};
 ghost use lib.ListN.{length};
+ghost use Rattle.answer.specs.Reply.{replyOf};
 ghost use Rattle.view.specs.View.{viewBytes, addressOf, placeWithin, within};
+ghost use Rattle.view.specs.Looked.{answerOf, viewShown};
 
 // Where bytes are shown from: an offset of the heap, or the front of the fallback page, which is lent beside it.
 pub enum Place {
@@ -16,6 +20,36 @@ pub enum Place {
 pub struct View {
     pub place: Place,
     pub len: u32,
+}
+
+// What a read comes to: bytes that are shown where they lie.
+pub enum Looked {
+    Shown(View),
+    Refused(Refusal),
+}
+
+impl Looked {
+    pub fn answer(self) -> Answer
+        ensures { λ r. ⌜ replyOf r ≡ answerOf self ⌝ }
+    {
+        match self {
+            Looked::Shown(view) => Answer::Served(view.len),
+            Looked::Refused(refusal) => Answer::Refused(refusal),
+        }
+    }
+
+    // The empty part of the page where it is refused.
+    pub fn view(self) -> View
+        ensures { λ r. ⌜ r ≡ viewShown self ⌝ }
+    {
+        match self {
+            Looked::Shown(view) => view,
+            Looked::Refused(_) => View {
+                place: Place::Page,
+                len: 0,
+            },
+        }
+    }
 }
 
 // At an offset with so much room to the end of its live object, and with a page of this length.

@@ -1,7 +1,7 @@
 -- `Looked::answer` meets its contract.
 use borrow.Author.Needs.{needs}
-use Rattle.heap.proofs.reading.Looked.answer.Statement.{statement}
-use Rattle.heap.proofs.reading.Looked.answer.Tie as tie
+use Rattle.view.proofs.Looked.answer.Statement.{statement}
+use Rattle.view.proofs.Looked.answer.Tie as tie
 
 enum-known-self : tie.Need-enum-known-self
 enum-known-self c = search needs

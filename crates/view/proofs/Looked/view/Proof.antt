@@ -1,7 +1,7 @@
 -- `Looked::view` meets its contract.
 use borrow.Author.Needs.{needs}
-use Rattle.heap.proofs.reading.Looked.view.Statement.{statement}
-use Rattle.heap.proofs.reading.Looked.view.Tie as tie
+use Rattle.view.proofs.Looked.view.Statement.{statement}
+use Rattle.view.proofs.Looked.view.Tie as tie
 
 enum-known-self : tie.Need-enum-known-self
 enum-known-self c = search needs

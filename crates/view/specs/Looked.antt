@@ -1,9 +1,9 @@
 -- What a read comes to, to its caller.
 use Rattle.answer.specs.Reply.{Reply, served, refusedBy}
 use Rattle.view.specs.declared.View.{View}
 use Rattle.view.specs.View.{noView}
-use Rattle.heap.specs.declared.reading.Looked.{Looked}
-use Rattle.heap.specs.declared.reading.Looked.the-variants.{Shown, Refused}
+use Rattle.view.specs.declared.Looked.{Looked}
+use Rattle.view.specs.declared.Looked.the-variants.{Shown, Refused}
 
 abbrev pub answerOf : Looked → Reply
 answerOf (Shown v) = served (v .len)
