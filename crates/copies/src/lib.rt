@@ -1,4 +1,4 @@
-// Filling bytes that were lent: what each kind of copy writes, as far as it fits, and zeros.
+// Copies into bytes that were lent: what each kind writes, as far as it fits; and zeros.
 use numbers::least;
 use numbers::wide;
 use request::Kind;

@@ -1,8 +1,8 @@
--- `fill::find_zero` meets its contract: a zero byte ends the span of others.
+-- `copies::find_zero` meets its contract: a zero byte ends the span of others.
 use borrow.Author.Needs.{needs}
-use Rattle.fill.proofs.Index.{index-front}
-use Rattle.fill.proofs.find_zero.Statement.{statement}
-use Rattle.fill.proofs.find_zero.Tie as tie
+use Rattle.copies.proofs.Index.{index-front}
+use Rattle.copies.proofs.find_zero.Statement.{statement}
+use Rattle.copies.proofs.find_zero.Tie as tie
 
 sub-other : tie.Need-sub-other
 sub-other c = search needs
