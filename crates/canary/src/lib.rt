@@ -3,12 +3,13 @@ use geometry::CLASSES;
 use geometry::Layout;
 use numbers::least;
 use numbers::wide;
+use span::PATTERN;
 ghost use mathlib.Core.Path.{_≡_};
-ghost use Prim.Native.Nat.{_+_, _-_, _%_, _<_, _≤_};
+ghost use Prim.Native.Nat.{_+_, _≤_};
 ghost use lib.ListN.{length, take};
 ghost use Rattle.words.specs.Word.{bytesOf};
 ghost use Rattle.writing.specs.Overwrite.{overwrite};
-ghost use Rattle.rules.specs.Canary.{filled, damage, hasDamage, filledHeap};
+ghost use Rattle.rules.specs.Canary.{filled, damage, filledHeap};
 
 // The bytes of a canary.
 const SIZE: usize = 4;
@@ -18,9 +19,6 @@ const SIZE: usize = 4;
 const FRONT: usize = 1024;
 
 const COPY: usize = 4096;
-
-// A search goes by blocks of this length, then by single canaries, and then by bytes.
-const BLOCK: usize = 64;
 
 // A canary's four bytes, lowest first.
 fn bytes_of(canary: u32) -> [u8; SIZE]
@@ -86,50 +84,11 @@ pub fn fill_slots(heap: &mut [u8], layout: Layout, canary: u32)
     }
 }
 
-// Whether a block of whole canaries is damaged. The loop has no early exit, so that it vectorises.
-fn differs(block: &[u8], canary: u32) -> bool
-    requires { ⌜ length (now block) % 4 ≡ 0 ⌝ }
-    ensures { λ r. ⌜ r ≡ hasDamage canary (now (block .entry)) ⌝ }
-{
-    let mut found = false;
-    let mut i: usize = 0;
-    while i < block.len() {
-        found = found | (words::get(&block[i..i + SIZE], 0) != canary);
-        i += SIZE;
-    }
-    found
-}
-
-// Passes over whole blocks that are not damaged, from a place that no damage comes before.
-fn skip(bytes: &[u8], canary: u32, from: usize, block: usize) -> usize
-    requires { ⌜ (from ≤ damage canary (now bytes)) × (from % 4 ≡ 0) × (block % 4 ≡ 0) × (0 < block) ⌝ }
-    ensures { λ r.
-        let end = damage canary (now (bytes .entry)) in
-        ⌜ r ≡ end - (end - from) % block ⌝ }
-{
-    let mut at = from;
-    while block <= bytes.len() - at {
-        let next = at + block;
-        if differs(&bytes[at..next], canary) {
-            return at;
-        }
-        at = next;
-    }
-    at
-}
-
 // The first damaged byte; the bytes' length where there is none.
 pub fn first_damage(bytes: &[u8], canary: u32) -> usize
     ensures { λ r. ⌜ r ≡ damage canary (now (bytes .entry)) ⌝ }
 {
-    let four = bytes_of(canary);
-    let far = skip(bytes, canary, 0, BLOCK);
-    let mut at = skip(bytes, canary, far, SIZE);
-    while at < bytes.len() {
-        if bytes[at] != four[at % SIZE] {
-            return at;
-        }
-        at += 1;
-    }
-    at
+    let mut pattern = [0u8; PATTERN];
+    fill_words(&mut pattern, canary);
+    span::same(bytes, &pattern)
 }

@@ -31,5 +31,5 @@ pub fn copy(
         return Answer::Refused(Refusal::OutOfRange);
     }
     let end = start + object::space(metadata, layout, offset);
-    Answer::Served(fill::write(&mut heap[start..end], source, kind) as u32)
+    Answer::Served(copies::write(&mut heap[start..end], source, kind) as u32)
 }

@@ -83,7 +83,7 @@ pub fn reset(metadata: &mut [u8], generator: Generator, canary: u32)
         let m = now (metadata .entry) in
         ⌜ now (metadata .exit) ≡ withCanary (withGenerator (replicate (length m) 0) generator) canary ⌝ }
 {
-    fill::clear(metadata);
+    copies::clear(metadata);
     store(metadata, generator);
     put(metadata, CANARY, canary);
 }

@@ -7,13 +7,14 @@ use native.Mathlib.Nat.{le-of-eq, zero-mul, add-mul, suc-mul, mul-le-mul-right, 
 use native.Mathlib.Nat.{dvd-of-mod-eq-zero, dvd-mul-left-of-dvd, mod-eq-zero-of-dvd}
 use native.Mathlib.Decide.{decLt}
 use native.Mathlib.Omega.{arith}
+use borrow.Author.Tests.{lt-ltb, le-ltb}
 use lib.ListN.{length, take, drop, length-drop}
 use lib.Seq.{take-all, drop-drop}
 use Rattle.search.specs.First.{first}
 use Rattle.search.proofs.First.{first-found, first-past, first-skip}
 use Rattle.bitmap.specs.Bitmap.{isSet}
 use Rattle.rules.specs.Canary.{damage, hasDamage}
-use Rattle.canary.proofs.Damage.{damage-le, part-intact, part-damaged}
+use Rattle.canary.proofs.Damage.{damage-le, part-damage}
 use Rattle.inspect.specs.Class.{isHitIn, SideBySide}
 
 -- a slot begins among the bytes
@@ -62,7 +63,8 @@ module _ (canary : ℕ) (bytes bitmap : List ℕ) (slots size : ℕ) (lie : Side
           let before : suc i * size ≤ k * size = mul-le-mul-right size l in
           let ends : i * size + size ≤ d = omega (arith, split, suc-mul i size) in
           let intact : hasDamage canary (take size (drop ((slot + i) * size) bytes)) ≡ false = rw (bytes-at i)
-          (part-intact canary rest (i * size) size (slot-whole i) (omega (arith, split)) (rw (← first-at) ends)) in
+          (part-damage canary rest (i * size) size (slot-whole i) (omega (arith, split)) (omega arith)
+          ∙ le-ltb (damage canary rest) (i * size + size) (omega arith)) in
           rw intact (and-false (not (isSet bitmap slots (slot + i))))
 
       skipped : first test slot (slots - slot) ≡ first test (slot + k) (slots - (slot + k))
@@ -76,7 +78,8 @@ module _ (canary : ℕ) (bytes bitmap : List ℕ) (slots size : ℕ) (lie : Side
           let none : k * size ≡ 0 = rw e (zero-mul size) in
           let all : suc slot * size ≤ slots * size = mul-le-mul-right size h in
           let damaged : hasDamage canary (take size rest) ≡ true =
-          part-damaged canary rest 0 size refl (omega (arith, rest-length, suc-mul slot size)) (omega arith) (rw (← first-at) (omega (arith, split, none))) in
+          part-damage canary rest 0 size refl (omega (arith, rest-length, suc-mul slot size)) (omega arith)
+          ∙ lt-ltb (damage canary rest) (0 + size) (omega (arith, split, none)) in
           rw damaged (and-true (not (isSet bitmap slots slot)))
 
 -- what is known of a slot that is set, and of how many slots from a clear one on hold the canary

@@ -9,7 +9,7 @@ use native.Mathlib.Omega.{arith}
 use lib.ListN.{length, take, drop, set, replicate, length-append, length-take, length-drop, length-set, length-replicate}
 use lib.Seq.{take-all, drop-length, length-take-le, take-take, take-at, drop-at, drop-drop, take-append-le, take-append-add}
 use Rattle.bytes.specs.Bytes.{indexOf}
-use Rattle.fill.proofs.Index.{index-le}
+use Rattle.copies.proofs.Index.{index-le}
 use Rattle.request.specs.declared.Kind.the-variants.{String, Padded}
 use Rattle.writing.specs.Overwrite.{overwrite}
 use Rattle.writing.proofs.Fitting.{Put}

@@ -1,7 +1,7 @@
--- `fill::write` meets its contract, by the kind.
+-- `copies::write` meets its contract, by the kind.
 use borrow.Author.Needs.{needs}
-use Rattle.fill.proofs.write.Statement.{statement}
-use Rattle.fill.proofs.write.Tie as tie
+use Rattle.copies.proofs.write.Statement.{statement}
+use Rattle.copies.proofs.write.Tie as tie
 
 enum-told : tie.Need-enum-told
 enum-told c = search needs

@@ -1,9 +1,9 @@
--- `fill::write_clipped` meets its contract: where the source is longer and there is a last byte, that is zero.
+-- `copies::write_clipped` meets its contract: where the source is longer and there is a last byte, that is zero.
 use native.Mathlib.Omega.{arith}
 use borrow.Author.Needs.{needs}
-use Rattle.fill.proofs.Contents.{clipped-whole, clipped-nowhere, clipped-closed}
-use Rattle.fill.proofs.write_clipped.Statement.{statement}
-use Rattle.fill.proofs.write_clipped.Tie as tie
+use Rattle.copies.proofs.Contents.{clipped-whole, clipped-nowhere, clipped-closed}
+use Rattle.copies.proofs.write_clipped.Statement.{statement}
+use Rattle.copies.proofs.write_clipped.Tie as tie
 
 write-requires : tie.Need-write-requires
 write-requires c κs = search needs

@@ -1,8 +1,8 @@
--- `fill::write_padded` meets its contract: the text, and then zeros up to the count or the room.
+-- `copies::write_padded` meets its contract: the text, and then zeros up to the count or the room.
 use borrow.Author.Needs.{needs}
-use Rattle.fill.proofs.Contents.{padded-put}
-use Rattle.fill.proofs.write_padded.Statement.{statement}
-use Rattle.fill.proofs.write_padded.Tie as tie
+use Rattle.copies.proofs.Contents.{padded-put}
+use Rattle.copies.proofs.write_padded.Statement.{statement}
+use Rattle.copies.proofs.write_padded.Tie as tie
 
 wide-requires : tie.Need-wide-requires
 wide-requires c κs = search needs

@@ -7,8 +7,8 @@ use borrow.Author.Fill.{fill-none, fill-more}
 use borrow.Author.Needs.{needs}
 use lib.ListN.{length, drop, replicate, length-set}
 use lib.Seq.{drop-length}
-use Rattle.fill.proofs.clear.Statement.{statement}
-use Rattle.fill.proofs.clear.Tie as tie
+use Rattle.copies.proofs.clear.Statement.{statement}
+use Rattle.copies.proofs.clear.Tie as tie
 
 abbrev Inv-loop : tie.InvT-loop
 Inv-loop bytes₀ i₀ bytes i =

@@ -1,9 +1,9 @@
--- `fill::write_string` meets its contract: the part through the zero byte that was found, or the source, clipped.
+-- `copies::write_string` meets its contract: the part through the zero byte that was found, or the source, clipped.
 use borrow.Author.Needs.{needs}
 use lib.ListN.{length}
-use Rattle.fill.proofs.Contents.{string-part, string-rest}
-use Rattle.fill.proofs.write_string.Statement.{statement}
-use Rattle.fill.proofs.write_string.Tie as tie
+use Rattle.copies.proofs.Contents.{string-part, string-rest}
+use Rattle.copies.proofs.write_string.Statement.{statement}
+use Rattle.copies.proofs.write_string.Tie as tie
 
 least-requires : tie.Need-least-requires
 least-requires c κs = search needs

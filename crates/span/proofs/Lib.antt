@@ -1,0 +1,2 @@
+-- Laws of blocks held against a pattern.
+pub mod Parts

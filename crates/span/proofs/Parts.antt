@@ -1,0 +1,106 @@
+-- A block held against the part of a pattern that lies there: its hits are those of the whole.
+use Prim.Native.Nat.{ℕ, _+_, _-_, _%_, _<_, _≤_}
+use mathlib.Core.Path.{_≡_, refl, sym, ap, fun-ext, _∙_}
+use mathlib.Core.Bool.{Bool, true, false, not, Bool·beq}
+use mathlib.Core.List.{List}
+use native.Mathlib.Nat.{add-sub-cancel-left, mod-one, mod-add-mod, mod-eq-of-lt}
+use native.Mathlib.Nat.{dvd-of-mod-eq-zero, dvd-mod-iff, dvd-sub, le-of-dvd}
+use native.Mathlib.Omega.{arith}
+use lib.Dec.{ltb, eqb}
+use lib.ListN.{length, take, drop, getD, replicate, length-drop, length-replicate, getD-replicate}
+use lib.Seq.{length-take-le, getD-take, getD-drop}
+use Rattle.search.specs.First.{first}
+use Rattle.search.proofs.First.{first-range}
+use Rattle.search.proofs.Blocks.{first-inside}
+use Rattle.span.specs.Pattern.{patternSize, isOther, isByte, isHit, isHitOver, firstHit, Laid}
+
+pub hit-le : (equal : Bool) (period : ℕ) (pattern b : List ℕ) → firstHit equal period pattern b ≤ length b
+hit-le equal period pattern b = omega (arith, first-range (isHitOver equal period pattern b) 0 (length b))
+
+pub part-length : (b : List ℕ) (at n : ℕ) → at + n ≤ length b → length (take (at + n - at) (drop at b)) ≡ n
+part-length b at n fits = rw (add-sub-cancel-left at n) (length-take-le n (drop at b) (rw length-drop (omega arith)))
+
+module _ (equal : Bool) {period : ℕ} {pattern : List ℕ} (b : List ℕ) {block : ℕ} (laid : Laid pattern period block)
+    (at : ℕ) (whole : at % block ≡ 0) where
+  abbrev place : ℕ
+  place = at % period
+
+  abbrev here : ℕ → Bool
+  here = isHit equal (take block (drop place pattern)) (take block (drop at b))
+
+  abbrev anywhere : ℕ → Bool
+  anywhere = isHitOver equal period pattern b
+
+  part-hit : (i : ℕ) → i < block → here i ≡ anywhere (at + i)
+  part-hit i l =
+      let turned : getD pattern (place + i) 0 ≡ getD pattern ((at + i) % period) 0 =
+      sym (laid .repeats (place + i) (omega (arith, laid .fits at whole)))
+      ∙ ap (λ (j : ℕ). getD pattern j 0) (mod-add-mod at period i) in
+      rw (getD-take block (drop at b) i 0 l, getD-drop at b i 0)
+      (rw (getD-take block (drop place pattern) i 0 l, getD-drop place pattern i 0, turned))
+
+  -- whether the first hit is in it, where none comes before it
+  pub block-found : {t : Bool} → at + block ≤ length b → at ≤ firstHit equal period pattern b
+      → (let part = take (at + block - at) (drop at b) in
+      let held = take (place + block - place) (drop place pattern) in
+      t ≡ ltb (first (isHit equal held part) 0 (length part)) (length part))
+      → t ≡ ltb (firstHit equal period pattern b) (at + block)
+  block-found fits before seen =
+      rw (part-length b at block fits, add-sub-cancel-left at block, add-sub-cancel-left place block) at seen
+      ∙ first-inside here anywhere at block (length b) part-hit fits before
+
+-- ---- a pattern
+
+module _ (pattern : List ℕ) (size : length pattern ≡ patternSize) where
+  pub pattern-laid : (block : ℕ) → 0 < block → patternSize % block ≡ 0 → Laid pattern patternSize block
+  pattern-laid block some divides =
+      record {
+        some = some;
+        turns = omega arith;
+        fits = λ at whole.
+            let all = dvd-of-mod-eq-zero block {n = patternSize} divides in
+            let place = dvd-mod-iff block {m = at} all .1 (dvd-of-mod-eq-zero block whole) in
+            let rest : block ≤ patternSize - at % patternSize = le-of-dvd (omega arith) (dvd-sub block all place) in
+            omega (arith, rest, size);
+        repeats = λ i l. ap (λ (j : ℕ). getD pattern j 0) (mod-eq-of-lt (omega (arith, size)));
+      }
+
+-- where no byte is left over
+pub others : (pattern b : List ℕ) {r : ℕ} → (let end = firstHit false patternSize pattern b in r ≡ end - end % 1)
+    → r ≡ first (isOther pattern b) 0 (length b)
+others pattern b {r} e =
+    let all : r ≡ firstHit false patternSize pattern b = omega arith in
+    all
+    ∙ ap (λ (test : ℕ → Bool). first test 0 (length b))
+    (fun-ext (λ i. differs (eqb (getD b i 0) (getD pattern (i % patternSize) 0))))
+  where
+    differs : (t : Bool) → Bool·beq false t ≡ not t
+    differs true = refl
+    differs false = refl
+
+-- ---- one byte
+
+module _ (byte n : ℕ) where
+  pub byte-laid : (block : ℕ) → 0 < block → block ≤ n → Laid (replicate n byte) 1 block
+  byte-laid block some long =
+      record {
+        some = some;
+        turns = omega arith;
+        fits = λ at whole. rw (mod-one, length-replicate) (omega arith);
+        repeats = λ i l.
+            let inside : i < n = rw length-replicate at l in
+            rw (mod-one) (getD-replicate n 0 byte 0 (omega arith) ∙ sym (getD-replicate n i byte 0 inside));
+      }
+
+  -- where no byte is left over
+  pub equals : (b : List ℕ) {r : ℕ} → 0 < n → (let end = firstHit true 1 (replicate n byte) b in r ≡ end - end % 1)
+      → r ≡ first (isByte byte b) 0 (length b)
+  equals b {r} some e =
+      let all : r ≡ firstHit true 1 (replicate n byte) b = omega arith in
+      all
+      ∙ ap (λ (test : ℕ → Bool). first test 0 (length b))
+      (fun-ext (λ i. rw (mod-one, getD-replicate n 0 byte 0 some) (agrees (isByte byte b i))))
+    where
+      agrees : (t : Bool) → Bool·beq true t ≡ t
+      agrees true = refl
+      agrees false = refl

@@ -1,0 +1,126 @@
+-- `skip` meets its contract. The loop's invariant: no hit comes before `at`, and whole blocks do.
+use Prim.Native.Nat.{ℕ, _+_, _%_, _≤_}
+use mathlib.Core.Path.{_≡_, sym, _∙_}
+use native.Mathlib.Nat.{add-mod-right}
+use native.Mathlib.Omega.{arith}
+use borrow.Author.Tests.{ltb-true, ltb-false}
+use lib.ListN.{length}
+use Rattle.search.proofs.Blocks.{block-last}
+use Rattle.span.specs.Pattern.{firstHit}
+use Rattle.span.proofs.Parts.{hit-le, part-length, block-found}
+use Rattle.span.proofs.skip.Statement.{statement}
+use Rattle.span.proofs.skip.Tie as tie
+
+abbrev Inv-loop : tie.InvT-loop
+Inv-loop bytes pattern period equal from block at₀ left₀ at left =
+    (at ≤ firstHit equal period pattern bytes) × (at % block ≡ 0) × (at + left ≡ length bytes)
+
+abbrev μ-loop : tie.MeasureT-loop
+μ-loop bytes pattern period equal from block at₀ left₀ at left = left
+
+sub-left : tie.Need-sub-left Inv-loop μ-loop
+sub-left c =
+    let a = c .before .before .args in
+    omega (arith, hit-le (a .equal) (a .period) (a .pattern .now) (a .bytes .now))
+
+loop-holds : tie.Need-loop-holds Inv-loop μ-loop
+loop-holds c = (c .before .before .pre .0, c .before .before .pre .1, omega (arith, sub-left c))
+
+add-next : tie.Need-add-next Inv-loop μ-loop
+add-next c = omega arith
+
+rem-place : tie.Need-rem-place Inv-loop μ-loop
+rem-place c = omega arith
+
+sub-has-hit : tie.Need-sub-has-hit Inv-loop μ-loop
+sub-has-hit c = omega arith
+
+part-has-hit-start : tie.Need-part-has-hit-start Inv-loop μ-loop
+part-has-hit-start c = omega arith
+
+part-has-hit-end : tie.Need-part-has-hit-end Inv-loop μ-loop
+part-has-hit-end c = omega arith
+
+add-has-hit : tie.Need-add-has-hit Inv-loop μ-loop
+add-has-hit c =
+    let start = c .before .before .before .before .before in
+    omega (arith, start .pre .2 .fits (c .before .before .loop .at) (c .before .before .loop .inv .1))
+
+sub-has-hit-2 : tie.Need-sub-has-hit-2 Inv-loop μ-loop
+sub-has-hit-2 c = omega arith
+
+part-has-hit-start-2 : tie.Need-part-has-hit-start-2 Inv-loop μ-loop
+part-has-hit-start-2 c = omega arith
+
+part-has-hit-end-2 : tie.Need-part-has-hit-end-2 Inv-loop μ-loop
+part-has-hit-end-2 c =
+    let start = c .before .before .before .before .before in
+    omega (arith, start .pre .2 .fits (c .before .before .loop .at) (c .before .before .loop .inv .1))
+
+has-hit-requires : tie.Need-has-hit-requires Inv-loop μ-loop
+has-hit-requires c κs =
+    let start = c .before .before .before .before .before .before in
+    let loop = c .before .before .before .loop in
+    let a = start .args in
+    let size = part-length (a .bytes .now) (loop .at) (a .block) (omega arith) in
+    let fits = start .pre .2 .fits (loop .at) (loop .inv .1) in
+    let same = part-length (a .pattern .now) (loop .at % a .period) (a .block) fits in
+    omega (arith, size, same)
+
+returns : tie.Need-returns Inv-loop μ-loop
+returns c =
+    let start = c .before .before .before .before .before .before .before .before in
+    let loop = c .before .before .before .before .before .loop in
+    let a = start .args in
+    let end : ℕ = firstHit (a .equal) (a .period) (a .pattern .now) (a .bytes .now) in
+    let found =
+    block-found (a .equal) (a .bytes .now) (start .pre .2) (loop .at) (loop .inv .1) (omega arith) (loop .inv .0)
+    (c .before .has-hit .ensures) in
+    let inside = ltb-true end (loop .at + a .block) (sym found ∙ c .if1 .taken) in
+    block-last (loop .at) (a .block) end (loop .inv .1) (loop .inv .0) inside
+
+loop-less : tie.Need-loop-less Inv-loop μ-loop
+loop-less c = omega arith
+
+loop-again : tie.Need-loop-again Inv-loop μ-loop
+loop-again c =
+    let start = c .before .before .before .before .before .before .before .before in
+    let loop = c .before .before .before .before .before .loop in
+    let a = start .args in
+    let end : ℕ = firstHit (a .equal) (a .period) (a .pattern .now) (a .bytes .now) in
+    let found =
+    block-found (a .equal) (a .bytes .now) (start .pre .2) (loop .at) (loop .inv .1) (omega arith) (loop .inv .0)
+    (c .before .has-hit .ensures) in
+    let beyond = ltb-false end (loop .at + a .block) (sym found ∙ c .if1 .left) in
+    (beyond, add-mod-right (loop .at) (a .block) ∙ loop .inv .1, omega arith)
+
+returns-2 : tie.Need-returns-2 Inv-loop μ-loop
+returns-2 c =
+    let a = c .before .before .before .before .args in
+    let loop = c .before .loop in
+    let end : ℕ = firstHit (a .equal) (a .period) (a .pattern .now) (a .bytes .now) in
+    let within = hit-le (a .equal) (a .period) (a .pattern .now) (a .bytes .now) in
+    block-last (loop .at) (a .block) end (loop .inv .1) (loop .inv .0) (omega (arith, within))
+
+pub skip-spec : {M : Type 1} → statement M
+skip-spec =
+    tie.close
+    (tie.spec
+    Inv-loop
+    μ-loop
+    sub-left
+    loop-holds
+    add-next
+    rem-place
+    sub-has-hit
+    part-has-hit-start
+    part-has-hit-end
+    add-has-hit
+    sub-has-hit-2
+    part-has-hit-start-2
+    part-has-hit-end-2
+    has-hit-requires
+    returns
+    loop-less
+    loop-again
+    returns-2)

@@ -1,0 +1,39 @@
+-- Bytes held against a pattern over and over.
+use Prim.Native.Nat.{ℕ, _+_, _%_, _<_, _≤_}
+use mathlib.Core.Path.{_≡_}
+use mathlib.Core.Bool.{Bool, not, Bool·beq}
+use mathlib.Core.List.{List}
+use lib.Dec.{eqb}
+use lib.ListN.{length, getD}
+use Rattle.search.specs.First.{first}
+
+-- the bytes of a pattern
+abbrev pub patternSize : ℕ
+patternSize = 64
+
+-- whether byte i is another than that of a pattern over and over
+abbrev pub isOther : List ℕ → List ℕ → ℕ → Bool
+isOther pattern bytes i = not (eqb (getD bytes i 0) (getD pattern (i % patternSize) 0))
+
+-- whether byte i is this one
+abbrev pub isByte : ℕ → List ℕ → ℕ → Bool
+isByte byte bytes i = eqb (getD bytes i 0) byte
+
+-- ---- both, as they are sought: a hit is equal or not
+
+abbrev pub isHit : Bool → List ℕ → List ℕ → ℕ → Bool
+isHit equal pattern bytes i = Bool·beq equal (eqb (getD bytes i 0) (getD pattern i 0))
+
+-- what is held against begins anew after so many bytes
+abbrev pub isHitOver : Bool → ℕ → List ℕ → List ℕ → ℕ → Bool
+isHitOver equal period pattern bytes i = Bool·beq equal (eqb (getD bytes i 0) (getD pattern (i % period) 0))
+
+abbrev pub firstHit : Bool → ℕ → List ℕ → List ℕ → ℕ
+firstHit equal period pattern bytes = first (isHitOver equal period pattern bytes) 0 (length bytes)
+
+-- a pattern laid out far enough for blocks that lie side by side
+pub record Laid (pattern : List ℕ) (period block : ℕ) : Type 0 where
+  pub some : 0 < block
+  pub turns : 0 < period
+  pub fits : (at : ℕ) → at % block ≡ 0 → at % period + block ≤ length pattern
+  pub repeats : (i : ℕ) → i < length pattern → getD pattern (i % period) 0 ≡ getD pattern i 0

@@ -1,0 +1,88 @@
+// Spans: how many bytes from the first on are those of a pattern over and over, and how many are other than a byte.
+ghost use mathlib.Core.Path.{_≡_};
+ghost use Prim.Native.Nat.{_-_, _%_, _≤_};
+ghost use lib.Dec.{ltb};
+ghost use lib.ListN.{length};
+ghost use Rattle.search.specs.First.{first};
+ghost use Rattle.span.specs.Pattern.{isOther, isByte, isHit, firstHit, Laid};
+
+// The bytes of a pattern.
+pub const PATTERN: usize = 64;
+
+// A search goes by long blocks, then by shorter ones, and then by bytes.
+const LONG: usize = 128;
+
+const MIDDLE: usize = 32;
+
+const SHORT: usize = 8;
+
+// Whether a byte of a block is a hit: equal to that of the pattern, or not. The loop has no early exit, so that it
+// vectorises.
+fn has_hit(block: &[u8], pattern: &[u8], equal: bool) -> bool
+    requires { ⌜ length (now block) ≤ length (now pattern) ⌝ }
+    ensures { λ r.
+        let b = now (block .entry) in
+        ⌜ r ≡ ltb (first (isHit equal (now (pattern .entry)) b) 0 (length b)) (length b) ⌝ }
+{
+    let mut found = false;
+    let mut i: usize = 0;
+    while i < block.len() {
+        found = found | (equal == (block[i] == pattern[i]));
+        i += 1;
+    }
+    found
+}
+
+// Passes over whole blocks without a hit, from a place that none comes before. How many bytes are left is counted
+// apart: the compiler makes a shorter loop of it.
+fn skip(
+    bytes: &[u8],
+    pattern: &[u8],
+    period: usize,
+    equal: bool,
+    from: usize,
+    block: usize,
+) -> usize
+    requires { ⌜ (from ≤ firstHit equal period (now pattern) (now bytes)) × (from % block ≡ 0)
+        × Laid (now pattern) period block ⌝ }
+    ensures { λ r.
+        let end = firstHit equal period (now (pattern .entry)) (now (bytes .entry)) in
+        ⌜ r ≡ end - end % block ⌝ }
+{
+    let mut at = from;
+    let mut left = bytes.len() - from;
+    while block <= left {
+        let next = at + block;
+        let place = at % period;
+        if has_hit(&bytes[at..next], &pattern[place..place + block], equal) {
+            return at;
+        }
+        at = next;
+        left -= block;
+    }
+    at
+}
+
+// The first byte that is another than the pattern's; the bytes' length where there is none.
+pub fn same(bytes: &[u8], pattern: &[u8; PATTERN]) -> usize
+    ensures { λ r.
+        let b = now (bytes .entry) in
+        ⌜ r ≡ first (isOther (now (pattern .entry)) b) 0 (length b) ⌝ }
+{
+    let far = skip(bytes, pattern, PATTERN, false, 0, PATTERN);
+    let near = skip(bytes, pattern, PATTERN, false, far, SHORT);
+    skip(bytes, pattern, PATTERN, false, near, 1)
+}
+
+// The first byte that is this one; the bytes' length where there is none.
+pub fn other(bytes: &[u8], byte: u8) -> usize
+    ensures { λ r.
+        let b = now (bytes .entry) in
+        ⌜ r ≡ first (isByte byte b) 0 (length b) ⌝ }
+{
+    let pattern = [byte; LONG];
+    let far = skip(bytes, &pattern, 1, true, 0, LONG);
+    let middle = skip(bytes, &pattern, 1, true, far, MIDDLE);
+    let near = skip(bytes, &pattern, 1, true, middle, SHORT);
+    skip(bytes, &pattern, 1, true, near, 1)
+}
