@@ -13,16 +13,16 @@ use Rattle.search.proofs.First.{first-range}
 use Rattle.search.proofs.Blocks.{first-inside}
 use Rattle.search.proofs.Tabulate.{tabulate-at}
 use Rattle.span.specs.Pattern.{patternSize, isOther}
-use Rattle.rules.specs.Canary.{canaryByte, filled, isDamaged, damage, hasDamage}
+use Rattle.canary.specs.Canary.{canaryByte, filled, isDamaged, firstDamage, hasDamage}
 use Rattle.canary.proofs.Filling.{cycled-anew}
 
 module _ (canary : ℕ) (b : List ℕ) where
-  pub damage-le : damage canary b ≤ length b
+  pub damage-le : firstDamage canary b ≤ length b
   damage-le = omega (arith, first-range (isDamaged canary b) 0 (length b))
 
   -- a pattern of canaries over and over is the canary over and over
   pub damage-found : {pattern : List ℕ} {r : ℕ} → pattern ≡ filled canary patternSize
-      → r ≡ first (isOther pattern b) 0 (length b) → r ≡ damage canary b
+      → r ≡ first (isOther pattern b) 0 (length b) → r ≡ firstDamage canary b
   damage-found made found = found ∙ rw made (ap (λ (test : ℕ → Bool). first test 0 (length b)) (fun-ext byte))
     where
       byte : (i : ℕ) → isOther (filled canary patternSize) b i ≡ isDamaged canary b i
@@ -31,8 +31,8 @@ module _ (canary : ℕ) (b : List ℕ) where
           rw (tabulate-at (canaryByte canary) 0 patternSize (i % patternSize) (omega arith), again)
 
 -- whether the first damage is in a part that begins whole canaries from the start, where none comes before it
-pub part-damage : (canary : ℕ) (b : List ℕ) (at n : ℕ) → at % 4 ≡ 0 → at + n ≤ length b → at ≤ damage canary b
-    → hasDamage canary (take n (drop at b)) ≡ ltb (damage canary b) (at + n)
+pub part-damage : (canary : ℕ) (b : List ℕ) (at n : ℕ) → at % 4 ≡ 0 → at + n ≤ length b → at ≤ firstDamage canary b
+    → hasDamage canary (take n (drop at b)) ≡ ltb (firstDamage canary b) (at + n)
 part-damage canary b at n whole room before =
     let size : length (take n (drop at b)) ≡ n = length-take-le n (drop at b) (rw length-drop (omega arith)) in
     rw size (first-inside (isDamaged canary (take n (drop at b))) (isDamaged canary b) at n (length b) same room before)

@@ -11,7 +11,7 @@ use Rattle.words.specs.Word.{bytesOf, putWord}
 use Rattle.writing.specs.Overwrite.{overwrite}
 use Rattle.search.specs.Tabulate.{tabulate}
 use Rattle.search.proofs.Tabulate.{tabulate-length, tabulate-add, tabulate-at, tabulate-moved}
-use Rattle.rules.specs.Canary.{cycled, canaryByte, filled}
+use Rattle.canary.specs.Canary.{cycled, canaryByte, filled}
 
 -- ---- written as far as a place, and from there on as it was
 

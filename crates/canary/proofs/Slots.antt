@@ -20,7 +20,7 @@ use Rattle.geometry.specs.declared.Layout.{Layout}
 use Rattle.geometry.specs.Layout.{classes, slotSize, slots, locate}
 use Rattle.geometry.proofs.Geometry.{slot-size-whole}
 use Rattle.geometry.proofs.Slots.{slots-class, slots-hold, slots-held}
-use Rattle.rules.specs.Canary.{canaryByte, filled, filledByte, filledHeap}
+use Rattle.canary.specs.Canary.{canaryByte, filled, filledByte, filledHeap}
 
 module _ (G : Layout) (canary : ℕ) (h : List ℕ) where
   -- the slots of the classes before c are filled

@@ -9,7 +9,7 @@ ghost use Prim.Native.Nat.{_+_, _≤_};
 ghost use lib.ListN.{length, take};
 ghost use Rattle.words.specs.Word.{bytesOf};
 ghost use Rattle.writing.specs.Overwrite.{overwrite};
-ghost use Rattle.rules.specs.Canary.{filled, damage, filledHeap};
+ghost use Rattle.canary.specs.Canary.{filled, firstDamage, filledHeap};
 
 // The bytes of a canary.
 const SIZE: usize = 4;
@@ -86,7 +86,7 @@ pub fn fill_slots(heap: &mut [u8], layout: Layout, canary: u32)
 
 // The first damaged byte; the bytes' length where there is none.
 pub fn first_damage(bytes: &[u8], canary: u32) -> usize
-    ensures { λ r. ⌜ r ≡ damage canary (now (bytes .entry)) ⌝ }
+    ensures { λ r. ⌜ r ≡ firstDamage canary (now (bytes .entry)) ⌝ }
 {
     let mut pattern = [0u8; PATTERN];
     fill_words(&mut pattern, canary);

@@ -13,8 +13,8 @@ use Rattle.copies.proofs.Index.{index-le}
 use Rattle.request.specs.declared.Kind.the-variants.{String, Padded}
 use Rattle.writing.specs.Overwrite.{overwrite}
 use Rattle.writing.proofs.Fitting.{Put}
-use Rattle.rules.specs.Object.{stringIn, clipped, writes}
-use Rattle.rules.proofs.Clipping.{clipped-fits, clipped-longer}
+use Rattle.copies.specs.Writes.{stringIn, clipped, writes}
+use Rattle.copies.proofs.Clipping.{clipped-fits, clipped-longer}
 
 -- ---- strings
 

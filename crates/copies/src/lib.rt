@@ -8,7 +8,7 @@ ghost use lib.ListN.{length, replicate};
 ghost use Rattle.bytes.specs.Bytes.{indexOf};
 ghost use Rattle.request.specs.declared.Kind.the-variants.{String, Padded};
 ghost use Rattle.writing.specs.Overwrite.{overwrite};
-ghost use Rattle.rules.specs.Object.{clipped, writes};
+ghost use Rattle.copies.specs.Writes.{clipped, writes};
 
 // Writes zeros throughout.
 pub fn clear(bytes: &mut [u8])

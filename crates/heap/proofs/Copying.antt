@@ -12,8 +12,9 @@ use Rattle.geometry.specs.Layout.{heapLength}
 use Rattle.request.specs.declared.Kind.{Kind}
 use Rattle.answer.specs.Reply.{served}
 use Rattle.rules.specs.Outcome.{reply, heapAfter}
-use Rattle.rules.specs.Object.{space, writes, copy}
-use Rattle.rules.proofs.Clipping.{writes-le}
+use Rattle.copies.specs.Writes.{writes}
+use Rattle.rules.specs.Object.{space, copy}
+use Rattle.copies.proofs.Clipping.{writes-le}
 use Rattle.writing.specs.Overwrite.{overwrite}
 use Rattle.writing.proofs.Fitting.{put-back}
 

@@ -15,7 +15,7 @@ use Rattle.answer.specs.declared.Refusal.{Refusal}
 use Rattle.answer.specs.Reply.{Reply, served, refusedBy}
 use Rattle.answer.proofs.Numbers.{refusal-number}
 use Rattle.metadata.specs.Metadata.{canaryOf}
-use Rattle.rules.specs.Canary.{canaryByte, filled}
+use Rattle.canary.specs.Canary.{canaryByte, filled}
 use Rattle.rules.specs.Outcome.{Outcome, freed, reply, heapAfter}
 use Rattle.rules.specs.Object.{free}
 use Rattle.rules.proofs.Outcomes.{Comes, refuses, serves, free-comes}

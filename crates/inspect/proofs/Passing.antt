@@ -13,7 +13,7 @@ use lib.Seq.{take-all, drop-drop}
 use Rattle.search.specs.First.{first}
 use Rattle.search.proofs.First.{first-found, first-past, first-skip}
 use Rattle.bitmap.specs.Bitmap.{isSet}
-use Rattle.rules.specs.Canary.{damage, hasDamage}
+use Rattle.canary.specs.Canary.{firstDamage, hasDamage}
 use Rattle.canary.proofs.Damage.{damage-le, part-damage}
 use Rattle.inspect.specs.Class.{isHitIn, SideBySide}
 
@@ -43,7 +43,7 @@ module _ (canary : ℕ) (bytes bitmap : List ℕ) (slots size : ℕ) (lie : Side
     slot-whole i = mod-eq-zero-of-dvd 4 (dvd-mul-left-of-dvd 4 (dvd-of-mod-eq-zero 4 (lie .whole)) i)
 
     -- the first damage lies in slot `slot + k`, or there is none
-    module _ {d : ℕ} (first-at : d ≡ damage canary rest) where
+    module _ {d : ℕ} (first-at : d ≡ firstDamage canary rest) where
       abbrev k : ℕ
       k = d / size
 
@@ -64,7 +64,7 @@ module _ (canary : ℕ) (bytes bitmap : List ℕ) (slots size : ℕ) (lie : Side
           let ends : i * size + size ≤ d = omega (arith, split, suc-mul i size) in
           let intact : hasDamage canary (take size (drop ((slot + i) * size) bytes)) ≡ false = rw (bytes-at i)
           (part-damage canary rest (i * size) size (slot-whole i) (omega (arith, split)) (omega arith)
-          ∙ le-ltb (damage canary rest) (i * size + size) (omega arith)) in
+          ∙ le-ltb (firstDamage canary rest) (i * size + size) (omega arith)) in
           rw intact (and-false (not (isSet bitmap slots (slot + i))))
 
       skipped : first test slot (slots - slot) ≡ first test (slot + k) (slots - (slot + k))
@@ -79,7 +79,7 @@ module _ (canary : ℕ) (bytes bitmap : List ℕ) (slots size : ℕ) (lie : Side
           let all : suc slot * size ≤ slots * size = mul-le-mul-right size h in
           let damaged : hasDamage canary (take size rest) ≡ true =
           part-damage canary rest 0 size refl (omega (arith, rest-length, suc-mul slot size)) (omega arith)
-          ∙ lt-ltb (damage canary rest) (0 + size) (omega (arith, split, none)) in
+          ∙ lt-ltb (firstDamage canary rest) (0 + size) (omega (arith, split, none)) in
           rw damaged (and-true (not (isSet bitmap slots slot)))
 
 -- what is known of a slot that is set, and of how many slots from a clear one on hold the canary
@@ -90,9 +90,9 @@ module _ (canary : ℕ) (bytes bitmap : List ℕ) (slots size : ℕ) (lie : Side
   pub set-passed : isSet bitmap slots slot ≡ true → rest-of slot ≡ rest-of (slot + 1)
   set-passed e = first-past (isHitIn canary bytes bitmap slots size) h (rw e)
 
-  module _ {d k : ℕ} (looked : d ≡ damage canary (take (length bytes - slot * size) (drop (slot * size) bytes))) (divided : k ≡ d / size) where
-    found : d ≡ damage canary (drop (slot * size) bytes)
-    found = looked ∙ ap (damage canary) (take-all (length bytes - slot * size) (drop (slot * size) bytes) (le-of-eq (length-drop (slot * size) bytes)))
+  module _ {d k : ℕ} (looked : d ≡ firstDamage canary (take (length bytes - slot * size) (drop (slot * size) bytes))) (divided : k ≡ d / size) where
+    found : d ≡ firstDamage canary (drop (slot * size) bytes)
+    found = looked ∙ ap (firstDamage canary) (take-all (length bytes - slot * size) (drop (slot * size) bytes) (le-of-eq (length-drop (slot * size) bytes)))
 
     pub intact-inside : slot + k ≤ slots
     intact-inside = rw divided (not-beyond canary bytes bitmap slots size lie slot h found)

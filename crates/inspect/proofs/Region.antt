@@ -20,7 +20,7 @@ use Rattle.geometry.specs.Layout.{classes, heapLength, slotSize, longestSlot, s
 use Rattle.geometry.proofs.Geometry.{slot-size-some, slot-size-whole, slot-size-le}
 use Rattle.geometry.proofs.Slots.{slots-end-le, slot-within, start-located, located-start}
 use Rattle.metadata.specs.Metadata.{canaryOf, bitmapOf}
-use Rattle.rules.specs.Canary.{hasDamage}
+use Rattle.canary.specs.Canary.{hasDamage}
 use Rattle.rules.specs.Object.{isStart, isLive}
 use Rattle.rules.specs.Inspect.{isHit}
 use Rattle.inspect.specs.Class.{isHitIn, SideBySide}

@@ -5,7 +5,7 @@ use mathlib.Core.Bool.{Bool, not, _&&_}
 use mathlib.Core.List.{List}
 use lib.ListN.{length, take, drop}
 use Rattle.bitmap.specs.Bitmap.{isSet}
-use Rattle.rules.specs.Canary.{hasDamage}
+use Rattle.canary.specs.Canary.{hasDamage}
 
 -- slot i is clear, and damaged
 abbrev pub isHitIn : ℕ → List ℕ → List ℕ → ℕ → ℕ → ℕ → Bool

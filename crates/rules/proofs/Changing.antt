@@ -28,15 +28,16 @@ use Rattle.judge.specs.declared.Judged.{Judged}
 use Rattle.judge.specs.declared.Judged.the-variants.{Laid, Unfit}
 use Rattle.judge.specs.Judge.{lengths, admit}
 use Rattle.metadata.specs.Metadata.{canaryOf}
-use Rattle.rules.specs.Canary.{canaryByte, filled, filledByte, filledHeap}
+use Rattle.canary.specs.Canary.{canaryByte, filled, filledByte, filledHeap}
 use Rattle.rules.specs.Open.{Setup}
 use Rattle.rules.specs.Outcome.{Outcome, freed, told, heapAfter}
-use Rattle.rules.specs.Object.{isLive, space, free, writes, copy}
+use Rattle.copies.specs.Writes.{writes}
+use Rattle.rules.specs.Object.{isLive, space, free, copy}
 use Rattle.rules.specs.Serve.{Lent, act}
 use Rattle.rules.specs.Call.{serve, opening}
 use Rattle.rules.specs.Changing.{InSlot, SameSlot, InRest, MayChange, KeptBut}
 use Rattle.rules.proofs.Space.{live-lt, space-within}
-use Rattle.rules.proofs.Clipping.{writes-le}
+use Rattle.copies.proofs.Clipping.{writes-le}
 use Rattle.rules.proofs.Finding.{passed, free-finds}
 use Rattle.rules.proofs.Outcomes.{Comes, refuses, serves, allocate-comes, free-comes, remaining-comes, copy-comes, read-comes}
 use Rattle.judge.proofs.Judging.{admit-fits, laid-fits}

@@ -18,7 +18,7 @@ use Rattle.geometry.proofs.Slots.{slot-inside, located-start, start-located}
 use Rattle.bitmap.specs.Bitmap.{bit, isSet}
 use Rattle.bitmap.proofs.Slot.{is-clear}
 use Rattle.metadata.specs.Metadata.{canaryOf, bitmapOf}
-use Rattle.rules.specs.Canary.{canaryByte, isDamaged, damage, hasDamage}
+use Rattle.canary.specs.Canary.{canaryByte, isDamaged, firstDamage, hasDamage}
 use Rattle.rules.specs.Object.{isLive, isStart}
 use Rattle.rules.specs.Inspect.{isHit, hits}
 use Rattle.rules.specs.Inspected.{Damaged, AllDamaged, slotBytes}
@@ -63,7 +63,7 @@ module _ (G : Layout) (m h : List ℕ) where
       slot = take size (drop x h)
 
       k : ℕ
-      k = damage (canaryOf m) slot
+      k = firstDamage (canaryOf m) slot
 
       hit : (isStart G l && not (isLive G m l) ≡ true) × (hasDamage (canaryOf m) slot ≡ true)
       hit = and-eq-true-iff (isStart G l && not (isLive G m l)) (hasDamage (canaryOf m) slot) .0 e
@@ -124,8 +124,8 @@ module _ (G : Layout) (m h : List ℕ) where
         damaged : hasDamage (canaryOf m) (take (slotSize G (locate G at .class)) (drop at h)) ≡ true
         damaged =
             let size : length bytes ≡ slotSize G c = slot-length G h c i fits (d .exists) in
-            let early : damage (canaryOf m) bytes ≤ d .byte = first-le (isDamaged (canaryOf m) bytes) 0 (length bytes) (d .byte) (omega arith) other in
-            rw (located .0) (lt-ltb (damage (canaryOf m) bytes) (length bytes) (omega (arith, d .within)))
+            let early : firstDamage (canaryOf m) bytes ≤ d .byte = first-le (isDamaged (canaryOf m) bytes) 0 (length bytes) (d .byte) (omega arith) other in
+            rw (located .0) (lt-ltb (firstDamage (canaryOf m) bytes) (length bytes) (omega (arith, d .within)))
 
     -- the hits are all of them
     pub hits-damaged : AllDamaged G m h (hits G m h)

@@ -1,9 +1,9 @@
 -- The laws and theorems on openings, single requests and inspections, and examples.
 pub mod Accepting
-pub mod Clipping
 pub mod Space
 pub mod Finding
 pub mod Outcomes
+pub mod Copying
 pub mod Effects
 pub mod Serving
 pub mod Refusing

@@ -9,7 +9,8 @@ use Rattle.request.specs.declared.Kind.{Kind}
 use Rattle.answer.specs.declared.Refusal.{Refusal}
 use Rattle.rules.specs.Outcome.{Outcome, refused, freed, told, shown}
 use Rattle.rules.specs.Allocate.{taken, allocate}
-use Rattle.rules.specs.Object.{space, free, remaining, writes, copy}
+use Rattle.copies.specs.Writes.{writes}
+use Rattle.rules.specs.Object.{space, free, remaining, copy}
 use Rattle.view.specs.View.{within}
 use Rattle.rules.specs.Read.{read}
 

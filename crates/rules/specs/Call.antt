@@ -16,7 +16,7 @@ use Rattle.answer.specs.Checks.{_when_, checked}
 use Rattle.view.specs.declared.View.{View}
 use Rattle.judge.specs.Judge.{lengths, onceLaid, admit}
 use Rattle.rules.specs.Open.{Setup, fresh}
-use Rattle.rules.specs.Canary.{filledHeap}
+use Rattle.canary.specs.Canary.{filledHeap}
 use Rattle.view.specs.View.{noView}
 use Rattle.rules.specs.Outcome.{Outcome, reply, metadataAfter, heapAfter, viewOf}
 use Rattle.rules.specs.Serve.{Lent, lentWith, act}

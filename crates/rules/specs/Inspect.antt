@@ -15,7 +15,7 @@ use Rattle.answer.specs.Reply.{Reply, served, refusedBy}
 use Rattle.answer.specs.Checks.{_when_, checked}
 use Rattle.metadata.specs.Metadata.{canaryOf}
 use Rattle.judge.specs.Judge.{onceLaid, admit}
-use Rattle.rules.specs.Canary.{hasDamage}
+use Rattle.canary.specs.Canary.{hasDamage}
 use Rattle.rules.specs.Object.{isLive, isStart}
 
 -- a clear slot begins at offset x, and is damaged

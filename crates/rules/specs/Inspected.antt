@@ -9,7 +9,7 @@ use Rattle.geometry.specs.declared.Layout.{Layout}
 use Rattle.geometry.specs.Layout.{slotSize, slots, slotStart, locate}
 use Rattle.bitmap.specs.Bitmap.{bit}
 use Rattle.metadata.specs.Metadata.{canaryOf, bitmapOf}
-use Rattle.rules.specs.Canary.{canaryByte}
+use Rattle.canary.specs.Canary.{canaryByte}
 use Rattle.rules.specs.Object.{isLive}
 use Rattle.rules.specs.Inspect.{Inspection}
 

@@ -1,5 +1,4 @@
 pub mod Open
-pub mod Canary
 pub mod Outcome
 pub mod Allocate
 pub mod Object

@@ -1,10 +1,9 @@
 -- Freeing an object, its remaining size, and copies into it. Where no slot is, none is live.
-use Prim.Native.Nat.{ℕ, suc, _-_}
-use mathlib.Core.List.{List, [], _∷_, _++_}
+use Prim.Native.Nat.{ℕ, _-_}
+use mathlib.Core.List.{List, [], _∷_}
 use mathlib.Core.Bool.{Bool, not, cond, _&&_}
-use lib.ListN.{length, take, set, replicate}
+use lib.ListN.{length}
 use lib.Dec.{leb, ltb, eqb}
-use Rattle.bytes.specs.Bytes.{indexOf}
 use Rattle.geometry.specs.declared.Layout.{Layout}
 use Rattle.geometry.specs.declared.Location.{Location}
 use Rattle.geometry.specs.Layout.{heapLength, slotSize, slots, locate}
@@ -12,7 +11,7 @@ use Rattle.bitmap.specs.Bitmap.{isSet}
 use Rattle.answer.specs.declared.Refusal.the-variants.{OutOfRange, NotASlotStart, NotAllocated, CorruptMetadata}
 use Rattle.answer.specs.Checks.{Check, _when_, checked}
 use Rattle.request.specs.declared.Kind.{Kind}
-use Rattle.request.specs.declared.Kind.the-variants.{Bytes, String, Padded}
+use Rattle.copies.specs.Writes.{writes}
 use Rattle.metadata.specs.Metadata.{countOf, bitmapOf}
 use Rattle.rules.specs.Outcome.{Outcome, refused, freed, told}
 
@@ -47,22 +46,6 @@ space G m offset =
 
 unfoldable pub remaining : Layout → List ℕ → ℕ → Outcome
 remaining G m offset = checked refused (ifPast G offset ∷ []) (told (space G m offset) offset [])
-
--- the string in a source: through its first zero byte, or to its end
-abbrev pub stringIn : List ℕ → List ℕ
-stringIn source = take (suc (indexOf 0 source)) source
-
--- a text in a given room: as it is where it fits; of a longer one what fits, with zero for the last byte
-abbrev pub clipped : ℕ → List ℕ → List ℕ
-clipped room text = cond (leb (length text) room) text (set (take room text) (room - 1) 0)
-
--- what a copy of each kind writes in a given room, from the first byte on (the paper's plain, text and counted copy):
--- the source; its string, closed where it is clipped; the source before its first zero byte or end, and then zeros,
--- count bytes in all
-abbrev pub writes : Kind → List ℕ → ℕ → List ℕ
-writes Bytes source room = take room source
-writes String source room = clipped room (stringIn source)
-writes (Padded count) source room = take room (take count (take (indexOf 0 source) source ++ replicate count 0))
 
 unfoldable pub copy : Layout → List ℕ → ℕ → Kind → List ℕ → Outcome
 copy G m offset kind source =

@@ -11,7 +11,7 @@ use Rattle.answer.specs.Reply.{Reply, served, refusedBy}
 use Rattle.writing.specs.Overwrite.{overwrite}
 use Rattle.view.specs.declared.View.{View}
 use Rattle.metadata.specs.Metadata.{withGenerator, countOf, withCount, canaryOf, bitmapOf}
-use Rattle.rules.specs.Canary.{filled}
+use Rattle.canary.specs.Canary.{filled}
 use Rattle.view.specs.View.{noView}
 
 pub data Outcome : Type 0 where

@@ -23,7 +23,7 @@ use Rattle.bitmap.specs.Bitmap.{isSet}
 use Rattle.judge.specs.declared.Judged.the-variants.{Laid}
 use Rattle.judge.specs.Judge.{admit}
 use Rattle.metadata.specs.Metadata.{withGenerator, canaryOf, bitmapOf}
-use Rattle.rules.specs.Canary.{canaryByte, filledByte, filledHeap}
+use Rattle.canary.specs.Canary.{canaryByte, filledByte, filledHeap}
 use Rattle.rules.specs.Open.{Setup, fresh}
 use Rattle.rules.specs.Outcome.{Outcome, freed, metadataAfter, heapAfter}
 use Rattle.rules.specs.Object.{isLive}

@@ -4,7 +4,7 @@ use Prim.Native.Nat.{_-_, _%_, _<_, _≤_}
 use mathlib.Core.Path.{_≡_, refl}
 use native.Mathlib.Omega.{arith}
 use lib.ListN.{length}
-use Rattle.rules.specs.Canary.{canaryByte}
+use Rattle.canary.specs.Canary.{canaryByte}
 use Rattle.canary.proofs.Filling.{Front, front-length, front-all, first-kept, first-front, repeat-more, copy-fits, copy-less, copy-whole}
 use Rattle.canary.proofs.fill.Statement.{statement}
 use Rattle.canary.proofs.fill.Tie as tie

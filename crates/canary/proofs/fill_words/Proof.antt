@@ -4,7 +4,7 @@ use Prim.Native.Nat.{_+_, _-_, _%_, _≤_}
 use mathlib.Core.Path.{_≡_, refl}
 use native.Mathlib.Omega.{arith}
 use lib.ListN.{length}
-use Rattle.rules.specs.Canary.{canaryByte}
+use Rattle.canary.specs.Canary.{canaryByte}
 use Rattle.words.specs.Word.{bytesOf}
 use Rattle.canary.proofs.Filling.{Front, front-none, front-length, front-all, word-more, text-size, text-more}
 use Rattle.canary.proofs.fill_words.Statement.{statement}

@@ -29,11 +29,11 @@ abbrev pub isDamaged : ℕ → List ℕ → ℕ → Bool
 isDamaged canary slot i = not (eqb (getD slot i 0) (canaryByte canary i))
 
 -- the first byte that is; its length where none is
-abbrev pub damage : ℕ → List ℕ → ℕ
-damage canary slot = first (isDamaged canary slot) 0 (length slot)
+abbrev pub firstDamage : ℕ → List ℕ → ℕ
+firstDamage canary slot = first (isDamaged canary slot) 0 (length slot)
 
 abbrev pub hasDamage : ℕ → List ℕ → Bool
-hasDamage canary slot = ltb (damage canary slot) (length slot)
+hasDamage canary slot = ltb (firstDamage canary slot) (length slot)
 
 -- byte x of a heap with a canary in every slot: where x lies in none, as it was
 abbrev pub filledByte : Layout → ℕ → List ℕ → ℕ → ℕ

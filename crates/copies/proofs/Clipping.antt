@@ -1,6 +1,6 @@
 -- What copies write in a room: no more than fits, and of a string that is longer what fits, closed with a zero.
-use Prim.Native.Nat.{ℕ, suc, min, _+_, _-_, _<_, _≤_}
-use mathlib.Core.Path.{_≡_, refl, sym, ap, _∙_}
+use Prim.Native.Nat.{ℕ, suc, min, _-_, _<_, _≤_}
+use mathlib.Core.Path.{_≡_, refl, ap, _∙_}
 use mathlib.Core.Logic.{_⊎_, inl, inr}
 use mathlib.Core.Bool.{Bool, true, false}
 use mathlib.Core.List.{List, [], _∷_}
@@ -9,18 +9,12 @@ use native.Mathlib.Decide.{decLe}
 use native.Mathlib.Omega.{arith}
 use borrow.Author.Tests.{eqb-true, le-leb, lt-leb}
 use lib.Dec.{eqb}
-use lib.ListN.{length, take, drop, set, getD, length-take, length-set}
-use lib.Seq.{take-all, getD-take, getD-drop, getD-set-same, getD-set-other}
+use lib.ListN.{length, take, set, getD, length-take, length-set}
+use lib.Seq.{take-all, getD-take, getD-set-same, getD-set-other}
 use Rattle.bytes.specs.Bytes.{indexOf, indexAfter}
 use Rattle.request.specs.declared.Kind.{Kind}
 use Rattle.request.specs.declared.Kind.the-variants.{Bytes, String, Padded}
-use Rattle.geometry.specs.declared.Layout.{Layout}
-use Rattle.geometry.specs.Layout.{heapLength}
-use Rattle.answer.specs.Reply.{served}
-use Rattle.writing.specs.Overwrite.{overwrite}
-use Rattle.writing.proofs.Parts.{part-here}
-use Rattle.rules.specs.Outcome.{reply, heapAfter}
-use Rattle.rules.specs.Object.{space, stringIn, clipped, writes, copy}
+use Rattle.copies.specs.Writes.{stringIn, clipped, writes}
 
 module _ (room : ℕ) (text : List ℕ) where
   pub clipped-fits : length text ≤ room → clipped room text ≡ text
@@ -97,29 +91,3 @@ module _ (s : List ℕ) (room : ℕ) where
   string-open none fits =
       let whole : text ≡ s = take-all (suc (indexOf 0 s)) s (omega arith) in
       ap (clipped room) whole ∙ clipped-fits room s fits
-
--- a string that does not fit, copied into a heap
-module _ (G : Layout) (m h source : List ℕ) (offset : ℕ) (size : length h ≡ heapLength G) (inside : offset < heapLength G)
-    (some : 0 < space G m offset) (long : space G m offset < length (stringIn source)) where
-  abbrev room : ℕ
-  room = space G m offset
-
-  abbrev bytes : List ℕ
-  bytes = writes String source room
-
-  filled : length bytes ≡ room
-  filled = clipped-length room (stringIn source) ∙ omega arith
-
-  -- the value is the space, and the object's last byte is zero
-  pub copy-closed : let o = copy G m offset String source in
-      (reply G o ≡ served room) × (getD (heapAfter G m h o) (offset + (room - 1)) 1 ≡ 0)
-  unfolding copy
-  copy-closed =
-      let longer = length-take (suc (indexOf 0 source)) source in
-      let after : List ℕ = overwrite h offset bytes in
-      let here : take room (drop offset after) ≡ bytes = part-here h offset bytes (omega arith) room filled in
-      let last : getD bytes (room - 1) 1 ≡ 0 = rw filled at (string-closed source room some (inr (omega arith))) in
-      rw (lt-leb (heapLength G) offset inside) (
-        rw filled,
-        sym (getD-drop offset after (room - 1) 1) ∙ sym (getD-take room (drop offset after) (room - 1) 1 (omega arith)) ∙ rw here last,
-      )
