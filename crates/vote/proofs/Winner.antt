@@ -41,7 +41,7 @@ mask-bit (b ∷ row) (suc r) =
     rw (pow-succ', ← div-div-eq-div-mul, half) (mask-bit row r)
 
 -- a row that says yes to none
-digits-none : (base : ℕ) (row : List Bool) → ((j : ℕ) → getD row j false ≡ false) → digits base row ≡ 0
+pub digits-none : (base : ℕ) (row : List Bool) → ((j : ℕ) → getD row j false ≡ false) → digits base row ≡ 0
 unfolding digits
 digits-none base [] h = refl
 digits-none base (b ∷ row) h = rw (h 0, digits-none base row (λ j. h (suc j)), mul-zero)

@@ -7,8 +7,9 @@ use compare::Places;
 ghost use mathlib.Core.Path.{_≡_};
 ghost use Prim.Native.Nat.{_≤_};
 ghost use lib.ListN.{length};
-ghost use Rattle.vote.specs.Decide.{most, firstOf, invalid, decide, tally, tallyOf, outputAfter, NamesWinner};
-ghost use Rattle.vote.specs.Groups.{rowOf};
+ghost use Rattle.vote.specs.Decide.{most, firstOf, blockIn, invalid, count, decide};
+ghost use Rattle.vote.specs.Decide.{tally, tallyOf, outputAfter, NamesWinner};
+ghost use Rattle.vote.specs.Groups.{rowOf, Placed};
 
 const FEWEST_REPLICAS: usize = 3;
 
@@ -52,6 +53,26 @@ fn first(k: usize) -> u32
     (1 << k as u32) - 1
 }
 
+// The block of the winner goes to the front of `output`, if two or more share it.
+fn count(outputs: &[u8], voting: u32, p: Places, output: &mut [u8]) -> Verdict
+    requires { ⌜ Placed (rowOf voting) (now outputs) p × (p .len ≤ length (now output)) ⌝ }
+    ensures { λ r.
+        let d = count (rowOf voting) (blockIn (now (outputs .entry)) p) in
+        ⌜ (tallyOf r ≡ tally d (tallyOf r .replica)) × (now (output .exit) ≡ outputAfter d (now (output .entry))) ⌝ }
+    ensures { λ r. ⌜ NamesWinner (tallyOf r) ⌝ }
+{
+    let winner = elect::elect(outputs, voting, p);
+    if winner.count < 2 {
+        return Verdict::Refused(Refusal::NoAgreement);
+    }
+    writing::write(output, compare::block(outputs, p, winner.replica));
+    Verdict::Agreed {
+        mask: winner.mask,
+        count: winner.count,
+        replica: winner.replica as u32,
+    }
+}
+
 // Replicas lie one after another in `blocks`, a block each. The winning block goes to the front of `output`.
 pub fn vote(blocks: &[u8], replicas: usize, block_len: usize, output: &mut [u8]) -> Verdict
     ensures { λ r.
@@ -69,14 +90,5 @@ pub fn vote(blocks: &[u8], replicas: usize, block_len: usize, output: &mut [u8])
         at: 0,
         len: block_len,
     };
-    let winner = elect::elect(blocks, first(replicas), side_by_side);
-    if winner.count < 2 {
-        return Verdict::Refused(Refusal::NoAgreement);
-    }
-    writing::write(output, compare::block(blocks, side_by_side, winner.replica));
-    Verdict::Agreed {
-        mask: winner.mask,
-        count: winner.count,
-        replica: winner.replica as u32,
-    }
+    count(blocks, first(replicas), side_by_side, output)
 }
