@@ -102,13 +102,11 @@ fn row(groups: [u8; 16], voting: u32, i: usize) -> [bool; 16]
     ensures { λ r. ⌜ r ≡ tabulate (together (rowOf voting) groups i) 0 16 ⌝ }
 {
     let mut out = [false; 16];
-    if !votes(voting, i) {
-        return out;
-    }
+    let voter = votes(voting, i);
     let own = groups[i];
     let mut j: usize = 0;
     while j < 16 {
-        out[j] = own == groups[j];
+        out[j] = voter & (own == groups[j]);
         j += 1;
     }
     out

@@ -24,10 +24,7 @@ fn digits(row: [bool; 16], base: u32, n: usize) -> u32
     let mut i = n;
     while 0 < i {
         i -= 1;
-        sum = base * sum;
-        if row[i] {
-            sum += 1;
-        }
+        sum = row[i] as u32 + base * sum;
     }
     sum
 }
@@ -41,19 +38,17 @@ fn winner(table: [[bool; 16]; 16], replicas: usize) -> Elected
     let mut most: u32 = 0;
     let mut i: usize = 0;
     while i < replicas {
-        let row = table[i];
-        let votes = digits(row, 1, 16);
+        let votes = digits(table[i], 1, 16);
         if most < votes {
             best = i;
             most = votes;
         }
         i += 1;
     }
-    let row = table[best];
     Elected {
         replica: best,
         count: most,
-        mask: digits(row, 2, replicas),
+        mask: digits(table[best], 2, replicas),
     }
 }
 

@@ -7,7 +7,7 @@ use compare::Places;
 ghost use mathlib.Core.Path.{_≡_};
 ghost use Prim.Native.Nat.{_≤_};
 ghost use lib.ListN.{length};
-ghost use Rattle.vote.specs.Decide.{most, firstOf, blockIn, invalid, count, decide};
+ghost use Rattle.vote.specs.Decide.{most, firstOf, blockIn, invalid, count, sideBySide, decide};
 ghost use Rattle.vote.specs.Decide.{tally, tallyOf, outputAfter, NamesWinner};
 ghost use Rattle.vote.specs.Groups.{rowOf, Placed};
 
@@ -53,6 +53,18 @@ fn first(k: usize) -> u32
     (1 << k as u32) - 1
 }
 
+// Blocks of one length, one after another.
+fn side_by_side(replicas: usize, block_len: usize) -> Places
+    ensures { λ r. ⌜ r ≡ sideBySide replicas «block_len» ⌝ }
+{
+    Places {
+        replicas,
+        apart: block_len,
+        at: 0,
+        len: block_len,
+    }
+}
+
 // The block of the winner goes to the front of `output`, if two or more share it.
 fn count(outputs: &[u8], voting: u32, p: Places, output: &mut [u8]) -> Verdict
     requires { ⌜ Placed (rowOf voting) (now outputs) p × (p .len ≤ length (now output)) ⌝ }
@@ -84,11 +96,10 @@ pub fn vote(blocks: &[u8], replicas: usize, block_len: usize, output: &mut [u8])
     if is_invalid(blocks.len(), replicas, block_len, output.len()) {
         return Verdict::Refused(Refusal::InvalidVote);
     }
-    let side_by_side = Places {
-        replicas,
-        apart: block_len,
-        at: 0,
-        len: block_len,
-    };
-    count(blocks, first(replicas), side_by_side, output)
+    count(
+        blocks,
+        first(replicas),
+        side_by_side(replicas, block_len),
+        output,
+    )
 }

@@ -24,10 +24,13 @@ allowed-here c = allowed (sym (c .before .is-invalid .ensures) ∙ c .if1 .left)
 first-requires : tie.Need-first-requires
 first-requires c κs = allowed-here c .few
 
+side-by-side-requires : tie.Need-side-by-side-requires
+side-by-side-requires c κs = search needs
+
 count-requires : tie.Need-count-requires
 count-requires c κs =
-    let numbers = allowed-here (c .before .before) in
-    rw (c .before .first .ensures) (placed numbers, numbers .room)
+    let numbers = allowed-here (c .before .before .before) in
+    rw (c .before .before .first .ensures, c .before .side-by-side .ensures) (placed numbers, numbers .room)
 
 same-length : tie.Need-same-length
 same-length c = search needs
@@ -35,11 +38,12 @@ same-length c = search needs
 returns-2 : tie.Need-returns-2
 unfolding decide
 returns-2 c =
-    let e = c .before .before .before .before in
-    let counted = rw (e .first .ensures) at (c .before .before .count .ensures) in
-    rw (sym (e .before .before .is-invalid .ensures) ∙ e .before .if1 .left, decide) counted
+    let placed = c .before .before .before .before in
+    let allowed = placed .before .before in
+    let counted = rw (placed .before .first .ensures, placed .side-by-side .ensures) at (c .before .before .count .ensures) in
+    rw (sym (allowed .before .is-invalid .ensures) ∙ allowed .if1 .left, decide) counted
 
 pub vote-spec : {M : Type 1} → statement M
 vote-spec =
     tie.close
-    (tie.spec is-invalid-requires returns first-requires count-requires same-length returns-2)
+    (tie.spec is-invalid-requires returns first-requires side-by-side-requires count-requires same-length returns-2)
