@@ -15,8 +15,8 @@ use Rattle.answer.specs.declared.Refusal.the-variants.{NoAgreement}
 use Rattle.search.specs.Tabulate.{tabulate}
 use Rattle.search.proofs.Tabulate.{tabulate-at, tabulate-length}
 use Rattle.writing.specs.Overwrite.{overwrite}
-use Rattle.vote.specs.declared.compare.Places.{Places}
-use Rattle.vote.specs.declared.elect.Elected.{Elected}
+use Rattle.vote.specs.declared.Places.{Places}
+use Rattle.vote.specs.declared.Elected.{Elected}
 use Rattle.vote.specs.Groups.{Placed, Counted, electedOf}
 use Rattle.vote.specs.Decide.{firstOf, blockIn, agree, row, agreements, votes, maskOf}
 use Rattle.vote.specs.Decide.{invalid, won, lost, count, sideBySide}

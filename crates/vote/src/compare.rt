@@ -1,4 +1,5 @@
 // Comparing: the table of which two replicas agree.
+use crate::Places;
 ghost use mathlib.Core.Path.{_≡_};
 ghost use Prim.Native.Nat.{ℕ, _+_, _*_, _<_, _≤_};
 ghost use mathlib.Core.Bool.{false};
@@ -7,15 +8,6 @@ ghost use lib.ListN.{length, getD, set};
 ghost use Rattle.search.specs.Tabulate.{tabulate};
 ghost use Rattle.vote.specs.Decide.{blockIn, agree, agreements};
 ghost use Rattle.vote.specs.Groups.{rowOf, Placed, groupOf, groupsOf, together};
-
-// How many replicas there are, how far apart their outputs lie, and in each the place and the length of the bytes that
-// are compared.
-pub struct Places {
-    pub replicas: usize,
-    pub apart: usize,
-    pub at: usize,
-    pub len: usize,
-}
 
 // The bytes of a replica, and where they lie.
 pub fn block(outputs: &[u8], p: Places, replica: usize) -> &[u8]

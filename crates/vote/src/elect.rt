@@ -1,19 +1,13 @@
 // Counting: the winner of a table of which two replicas agree.
+use crate::Elected;
+use crate::Places;
 use crate::compare;
-use crate::compare::Places;
 ghost use mathlib.Core.Path.{_≡_};
 ghost use Prim.Native.Nat.{ℕ, _≤_, _<_};
 ghost use mathlib.Core.Bool.{false};
 ghost use lib.ListN.{getD};
 ghost use Rattle.vote.specs.Decide.{blockIn, agreements, digits};
 ghost use Rattle.vote.specs.Groups.{rowOf, Placed, Counted, electedOf};
-
-// A replica with most votes, how many these are, and whose.
-pub struct Elected {
-    pub replica: usize,
-    pub count: u32,
-    pub mask: u32,
-}
 
 // A row as digits in base 1, which counts its replicas, or in base 2, which is their mask. It has none past the first n.
 fn digits(row: [bool; 16], base: u32, n: usize) -> u32

@@ -3,7 +3,6 @@ mod compare;
 mod elect;
 
 use answer::Refusal;
-use compare::Places;
 ghost use mathlib.Core.Path.{_≡_};
 ghost use Prim.Native.Nat.{_≤_};
 ghost use lib.ListN.{length};
@@ -16,6 +15,22 @@ const FEWEST_REPLICAS: usize = 3;
 const MOST_REPLICAS: usize = 16;
 
 const LONGEST_BLOCK: usize = 4096;
+
+// How many replicas there are, how far apart their outputs lie, and in each the place and the length of the bytes that
+// are compared.
+pub struct Places {
+    pub replicas: usize,
+    pub apart: usize,
+    pub at: usize,
+    pub len: usize,
+}
+
+// A replica with most votes, how many these are, and whose.
+pub struct Elected {
+    pub replica: usize,
+    pub count: u32,
+    pub mask: u32,
+}
 
 pub enum Verdict {
     // The winning replicas as a mask (bit r for replica r), how many they are, and one of them.
