@@ -10,6 +10,7 @@ use mathlib.Core.List.{List, [], _∷_}
 use lib.ListN.{length, getD, drop, length-drop}
 use lib.Seq.{drop-cons, getD-drop}
 use lib.Pow.{pow-mono}
+use mir.Val.{boolByte}
 use lib.Dec.{ltb}
 use borrow.Author.Tests.{lt-ltb, le-ltb}
 use Rattle.vote.specs.Decide.{digits, leader, votes, maskOf}
@@ -17,10 +18,10 @@ use Rattle.vote.specs.Groups.{Counted}
 
 -- ---- digits
 
--- a digit is 0 or 1
-digit-le : (b : Bool) → cond b 1 0 ≤ 1
-digit-le true = omega arith
-digit-le false = omega arith
+-- a digit is 0 or 1, as the code makes it
+pub digit : (b : Bool) → (boolByte b ≡ cond b 1 0) × (cond b 1 0 ≤ 1)
+digit true = (refl, omega arith)
+digit false = (refl, omega arith)
 
 -- a row of n replicas is a number of n bits at most
 digits-lt : (base : ℕ) (row : List Bool) → base ≤ 2 → digits base row < 2 ^ length row
@@ -29,19 +30,19 @@ digits-lt base [] h = omega arith
 digits-lt base (b ∷ row) h =
     let rest : digits base row < 2 ^ length row = digits-lt base row h in
     let twice : base * digits base row ≤ 2 * digits base row = mul-le-mul-right (digits base row) h in
-    rw pow-suc (omega (arith, digit-le b))
+    rw pow-suc (omega (arith, digit b))
 
 -- bit r of the mask says whether replica r is in the row
 pub mask-bit : (row : List Bool) (r : ℕ) → maskOf row / 2 ^ r % 2 ≡ cond (getD row r false) 1 0
 unfolding digits
 mask-bit [] r = rw zero-div
-mask-bit (b ∷ row) zero = omega (arith, digit-le b)
+mask-bit (b ∷ row) zero = omega (arith, digit b)
 mask-bit (b ∷ row) (suc r) =
-    let half : (cond b 1 0 + 2 * digits 2 row) / 2 ≡ digits 2 row = omega (arith, digit-le b) in
+    let half : (cond b 1 0 + 2 * digits 2 row) / 2 ≡ digits 2 row = omega (arith, digit b) in
     rw (pow-succ', ← div-div-eq-div-mul, half) (mask-bit row r)
 
 -- a row that says yes to none
-digits-none : (base : ℕ) (row : List Bool) → ((j : ℕ) → getD row j false ≡ false) → digits base row ≡ 0
+pub digits-none : (base : ℕ) (row : List Bool) → ((j : ℕ) → getD row j false ≡ false) → digits base row ≡ 0
 unfolding digits
 digits-none base [] h = refl
 digits-none base (b ∷ row) h = rw (h 0, digits-none base row (λ j. h (suc j)), mul-zero)
@@ -69,16 +70,13 @@ module _ {base : ℕ} {row : List Bool} {n : ℕ} where
         omega (arith, digits-lt base (drop i row) h, s .so-far)
 
     -- one digit more
-    pub summed-more : {next : ℕ} → 0 < i → n ≤ length row → next ≡ cond (getD row (i - 1) false) 1 0 + base * sum
-        → Summed base row n next (i - 1)
+    pub summed-more : 0 < i → n ≤ length row → Summed base row n (boolByte (getD row (i - 1) false) + base * sum) (i - 1)
     unfolding digits
-    summed-more h f e =
+    summed-more h f =
         let p : suc (i - 1) ≡ i = omega arith in
-        record {
-          within = omega (arith, s .within);
-          so-far =
-              e ∙ rw (s .so-far, drop-cons row (i - 1) false (omega (arith, s .within)), ap (λ (k : ℕ). drop k row) p);
-        }
+        let next : drop (i - 1) row ≡ getD row (i - 1) false ∷ drop i row =
+        rw p at (drop-cons row (i - 1) false (omega (arith, s .within))) in
+        record { within = omega (arith, s .within); so-far = rw (next, digit (getD row (i - 1) false) .0, s .so-far) }
 
     -- all summed
     pub summed-all : i ≤ 0 → sum ≡ digits base row

@@ -10,7 +10,7 @@ use Rattle.search.specs.Tabulate.{tabulate}
 use Rattle.answer.specs.declared.Refusal.{Refusal}
 use Rattle.answer.specs.declared.Refusal.the-variants.{InvalidVote, NoAgreement}
 use Rattle.answer.specs.Reply.{numberOf}
-use Rattle.vote.specs.declared.compare.Places.{Places}
+use Rattle.vote.specs.declared.Places.{Places}
 use Rattle.vote.specs.declared.Verdict.{Verdict}
 use Rattle.vote.specs.declared.Verdict.the-variants.{Agreed, Refused}
 

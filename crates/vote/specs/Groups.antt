@@ -7,8 +7,8 @@ use lib.ListN.{length, getD}
 use lib.Dec.{eqb}
 use Rattle.search.specs.First.{first}
 use Rattle.search.specs.Tabulate.{tabulate}
-use Rattle.vote.specs.declared.compare.Places.{Places}
-use Rattle.vote.specs.declared.elect.Elected.{Elected}
+use Rattle.vote.specs.declared.Places.{Places}
+use Rattle.vote.specs.declared.Elected.{Elected}
 use Rattle.vote.specs.Decide.{most, agree, votes, maskOf, leader}
 
 -- those whose bits are set in a mask, as a row of all sixteen

@@ -1,4 +1,5 @@
 // Comparing: the table of which two replicas agree.
+use crate::Places;
 ghost use mathlib.Core.Path.{_≡_};
 ghost use Prim.Native.Nat.{ℕ, _+_, _*_, _<_, _≤_};
 ghost use mathlib.Core.Bool.{false};
@@ -7,15 +8,6 @@ ghost use lib.ListN.{length, getD, set};
 ghost use Rattle.search.specs.Tabulate.{tabulate};
 ghost use Rattle.vote.specs.Decide.{blockIn, agree, agreements};
 ghost use Rattle.vote.specs.Groups.{rowOf, Placed, groupOf, groupsOf, together};
-
-// How many replicas there are, how far apart their outputs lie, and in each the place and the length of the bytes that
-// are compared.
-pub struct Places {
-    pub replicas: usize,
-    pub apart: usize,
-    pub at: usize,
-    pub len: usize,
-}
 
 // The bytes of a replica, and where they lie.
 pub fn block(outputs: &[u8], p: Places, replica: usize) -> &[u8]
@@ -102,13 +94,11 @@ fn row(groups: [u8; 16], voting: u32, i: usize) -> [bool; 16]
     ensures { λ r. ⌜ r ≡ tabulate (together (rowOf voting) groups i) 0 16 ⌝ }
 {
     let mut out = [false; 16];
-    if !votes(voting, i) {
-        return out;
-    }
+    let voter = votes(voting, i);
     let own = groups[i];
     let mut j: usize = 0;
     while j < 16 {
-        out[j] = own == groups[j];
+        out[j] = voter & (own == groups[j]);
         j += 1;
     }
     out

@@ -1,19 +1,13 @@
 // Counting: the winner of a table of which two replicas agree.
+use crate::Elected;
+use crate::Places;
 use crate::compare;
-use crate::compare::Places;
 ghost use mathlib.Core.Path.{_≡_};
 ghost use Prim.Native.Nat.{ℕ, _≤_, _<_};
 ghost use mathlib.Core.Bool.{false};
 ghost use lib.ListN.{getD};
 ghost use Rattle.vote.specs.Decide.{blockIn, agreements, digits};
 ghost use Rattle.vote.specs.Groups.{rowOf, Placed, Counted, electedOf};
-
-// A replica with most votes, how many these are, and whose.
-pub struct Elected {
-    pub replica: usize,
-    pub count: u32,
-    pub mask: u32,
-}
 
 // A row as digits in base 1, which counts its replicas, or in base 2, which is their mask. It has none past the first n.
 fn digits(row: [bool; 16], base: u32, n: usize) -> u32
@@ -24,10 +18,7 @@ fn digits(row: [bool; 16], base: u32, n: usize) -> u32
     let mut i = n;
     while 0 < i {
         i -= 1;
-        sum = base * sum;
-        if row[i] {
-            sum += 1;
-        }
+        sum = row[i] as u32 + base * sum;
     }
     sum
 }
@@ -41,19 +32,17 @@ fn winner(table: [[bool; 16]; 16], replicas: usize) -> Elected
     let mut most: u32 = 0;
     let mut i: usize = 0;
     while i < replicas {
-        let row = table[i];
-        let votes = digits(row, 1, 16);
+        let votes = digits(table[i], 1, 16);
         if most < votes {
             best = i;
             most = votes;
         }
         i += 1;
     }
-    let row = table[best];
     Elected {
         replica: best,
         count: most,
-        mask: digits(row, 2, replicas),
+        mask: digits(table[best], 2, replicas),
     }
 }
 

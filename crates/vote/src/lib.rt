@@ -3,18 +3,34 @@ mod compare;
 mod elect;
 
 use answer::Refusal;
-use compare::Places;
 ghost use mathlib.Core.Path.{_≡_};
 ghost use Prim.Native.Nat.{_≤_};
 ghost use lib.ListN.{length};
-ghost use Rattle.vote.specs.Decide.{most, firstOf, invalid, decide, tally, tallyOf, outputAfter, NamesWinner};
-ghost use Rattle.vote.specs.Groups.{rowOf};
+ghost use Rattle.vote.specs.Decide.{most, firstOf, blockIn, invalid, count, sideBySide, decide};
+ghost use Rattle.vote.specs.Decide.{tally, tallyOf, outputAfter, NamesWinner};
+ghost use Rattle.vote.specs.Groups.{rowOf, Placed};
 
 const FEWEST_REPLICAS: usize = 3;
 
 const MOST_REPLICAS: usize = 16;
 
 const LONGEST_BLOCK: usize = 4096;
+
+// How many replicas there are, how far apart their outputs lie, and in each the place and the length of the bytes that
+// are compared.
+pub struct Places {
+    pub replicas: usize,
+    pub apart: usize,
+    pub at: usize,
+    pub len: usize,
+}
+
+// A replica with most votes, how many these are, and whose.
+pub struct Elected {
+    pub replica: usize,
+    pub count: u32,
+    pub mask: u32,
+}
 
 pub enum Verdict {
     // The winning replicas as a mask (bit r for replica r), how many they are, and one of them.
@@ -52,6 +68,38 @@ fn first(k: usize) -> u32
     (1 << k as u32) - 1
 }
 
+// Blocks of one length, one after another.
+fn side_by_side(replicas: usize, block_len: usize) -> Places
+    ensures { λ r. ⌜ r ≡ sideBySide replicas «block_len» ⌝ }
+{
+    Places {
+        replicas,
+        apart: block_len,
+        at: 0,
+        len: block_len,
+    }
+}
+
+// The block of the winner goes to the front of `output`, if two or more share it.
+fn count(outputs: &[u8], voting: u32, p: Places, output: &mut [u8]) -> Verdict
+    requires { ⌜ Placed (rowOf voting) (now outputs) p × (p .len ≤ length (now output)) ⌝ }
+    ensures { λ r.
+        let d = count (rowOf voting) (blockIn (now (outputs .entry)) p) in
+        ⌜ (tallyOf r ≡ tally d (tallyOf r .replica)) × (now (output .exit) ≡ outputAfter d (now (output .entry))) ⌝ }
+    ensures { λ r. ⌜ NamesWinner (tallyOf r) ⌝ }
+{
+    let winner = elect::elect(outputs, voting, p);
+    if winner.count < 2 {
+        return Verdict::Refused(Refusal::NoAgreement);
+    }
+    writing::write(output, compare::block(outputs, p, winner.replica));
+    Verdict::Agreed {
+        mask: winner.mask,
+        count: winner.count,
+        replica: winner.replica as u32,
+    }
+}
+
 // Replicas lie one after another in `blocks`, a block each. The winning block goes to the front of `output`.
 pub fn vote(blocks: &[u8], replicas: usize, block_len: usize, output: &mut [u8]) -> Verdict
     ensures { λ r.
@@ -63,20 +111,10 @@ pub fn vote(blocks: &[u8], replicas: usize, block_len: usize, output: &mut [u8])
     if is_invalid(blocks.len(), replicas, block_len, output.len()) {
         return Verdict::Refused(Refusal::InvalidVote);
     }
-    let side_by_side = Places {
-        replicas,
-        apart: block_len,
-        at: 0,
-        len: block_len,
-    };
-    let winner = elect::elect(blocks, first(replicas), side_by_side);
-    if winner.count < 2 {
-        return Verdict::Refused(Refusal::NoAgreement);
-    }
-    writing::write(output, compare::block(blocks, side_by_side, winner.replica));
-    Verdict::Agreed {
-        mask: winner.mask,
-        count: winner.count,
-        replica: winner.replica as u32,
-    }
+    count(
+        blocks,
+        first(replicas),
+        side_by_side(replicas, block_len),
+        output,
+    )
 }

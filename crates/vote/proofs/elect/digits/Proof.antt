@@ -1,6 +1,9 @@
 -- `digits` meets its contract. The loop's invariant: the digits from `i` on are summed up.
+use Prim.Native.Nat.{_-_}
 use native.Mathlib.Omega.{arith}
-use Rattle.vote.proofs.Winner.{Summed, summed-none, summed-fits, summed-more, summed-all}
+use mathlib.Core.Bool.{false}
+use lib.ListN.{getD}
+use Rattle.vote.proofs.Winner.{digit, Summed, summed-none, summed-fits, summed-more, summed-all}
 use Rattle.vote.proofs.elect.digits.Statement.{statement}
 use Rattle.vote.proofs.elect.digits.Tie as tie
 
@@ -16,27 +19,26 @@ loop-holds c = summed-none (c .pre .2)
 sub-i : tie.Need-sub-i Inv-loop μ-loop
 sub-i c = omega arith
 
+array-read-sum : tie.Need-array-read-sum Inv-loop μ-loop
+array-read-sum c = omega arith
+
+cast-sum : tie.Need-cast-sum Inv-loop μ-loop
+cast-sum c = tt
+
 mul-sum : tie.Need-mul-sum Inv-loop μ-loop
 mul-sum c = omega (arith, summed-fits (c .before .loop .inv) (omega arith) (omega arith))
 
-array-read-if1 : tie.Need-array-read-if1 Inv-loop μ-loop
-array-read-if1 c = omega arith
-
 add-sum : tie.Need-add-sum Inv-loop μ-loop
-add-sum c = omega (arith, summed-fits (c .before .before .loop .inv) (omega arith) (omega arith))
+add-sum c =
+    let l = c .before .loop in
+    let b = getD (c .before .before .args .t1) (l .i - 1) false in
+    omega (arith, digit b, summed-fits (l .inv) (omega arith) (omega arith))
 
 loop-less : tie.Need-loop-less Inv-loop μ-loop
 loop-less c = omega arith
 
 loop-again : tie.Need-loop-again Inv-loop μ-loop
-loop-again c = summed-more (c .before .before .loop .inv) (omega arith) (omega arith) (rw (c .if1 .taken) (omega arith))
-
-loop-less-2 : tie.Need-loop-less-2 Inv-loop μ-loop
-loop-less-2 c = omega arith
-
-loop-again-2 : tie.Need-loop-again-2 Inv-loop μ-loop
-loop-again-2 c =
-    summed-more (c .before .before .loop .inv) (omega arith) (omega arith) (rw (c .if1 .left) (omega arith))
+loop-again c = summed-more (c .before .loop .inv) (omega arith) (omega arith)
 
 returns : tie.Need-returns Inv-loop μ-loop
 returns c = summed-all (c .before .loop .inv) (omega arith)
@@ -49,11 +51,10 @@ digits-spec =
     μ-loop
     loop-holds
     sub-i
+    array-read-sum
+    cast-sum
     mul-sum
-    array-read-if1
     add-sum
     loop-less
     loop-again
-    loop-less-2
-    loop-again-2
     returns)

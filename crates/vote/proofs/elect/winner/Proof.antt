@@ -19,11 +19,11 @@ leads c = omega (arith, led-all (c .before .loop .inv) (omega arith) (c .before 
 loop-holds : tie.Need-loop-holds Inv-loop μ-loop
 loop-holds c = led-none
 
-mul-row : tie.Need-mul-row Inv-loop μ-loop
-mul-row c = omega arith
+mul-digits : tie.Need-mul-digits Inv-loop μ-loop
+mul-digits c = omega arith
 
-array-copy-out-row : tie.Need-array-copy-out-row Inv-loop μ-loop
-array-copy-out-row c = omega arith
+array-copy-out-digits : tie.Need-array-copy-out-digits Inv-loop μ-loop
+array-copy-out-digits c = omega arith
 
 digits-requires : tie.Need-digits-requires Inv-loop μ-loop
 digits-requires c κs = (omega arith, omega arith, λ j l. c .before .before .before .pre .columns _ j (omega arith) (omega arith))
@@ -43,11 +43,11 @@ loop-again c =
     (λ w. rw (w .1, w .2) (led-old l (omega arith) e (omega arith)))
     (c .if1 .came)
 
-mul-row-2 : tie.Need-mul-row-2 Inv-loop μ-loop
-mul-row-2 c = omega (arith, leads c)
+mul-digits-2 : tie.Need-mul-digits-2 Inv-loop μ-loop
+mul-digits-2 c = omega (arith, leads c)
 
-array-copy-out-row-2 : tie.Need-array-copy-out-row-2 Inv-loop μ-loop
-array-copy-out-row-2 c = omega (arith, leads c)
+array-copy-out-digits-2 : tie.Need-array-copy-out-digits-2 Inv-loop μ-loop
+array-copy-out-digits-2 c = omega (arith, leads c)
 
 digits-requires-2 : tie.Need-digits-requires-2 Inv-loop μ-loop
 digits-requires-2 c κs = (omega arith, omega arith, λ j l. c .before .before .before .pre .columns _ j (leads (c .before)) l)
@@ -64,13 +64,13 @@ winner-spec =
     Inv-loop
     μ-loop
     loop-holds
-    mul-row
-    array-copy-out-row
+    mul-digits
+    array-copy-out-digits
     digits-requires
     add-i
     loop-less
     loop-again
-    mul-row-2
-    array-copy-out-row-2
+    mul-digits-2
+    array-copy-out-digits-2
     digits-requires-2
     returns)
