@@ -4,7 +4,7 @@ ghost use Prim.Native.Nat.{_+_, _-_, _≤_};
 ghost use mathlib.Core.Path.{_≡_};
 ghost use lib.ListN.{length};
 ghost use Rattle.messages.specs.Put.{Put};
-ghost use Rattle.messages.specs.Message.{found, said, expectedOf, messageOf, messageWithin};
+ghost use Rattle.messages.specs.Message.{found, said, expectedOf, messageWithin};
 ghost use Rattle.messages.specs.Message.{expectedRoom, foundRoom, messageRoom};
 
 // The longest text of what was expected, and of what is found: a word between quotes, and a line end.
@@ -88,23 +88,8 @@ fn say_expected(number: u64, read: Line, out: &mut [u8], at: usize) -> usize
     }
 }
 
-// Writes what a bad line should have been and what it is, and of any other line nothing.
-fn put_message(line: &[u8], read: Line, number: u64, out: &mut [u8], at: usize) -> usize
-    requires { ⌜ at + messageRoom ≤ length (now out) ⌝ }
-    ensures { λ r. ⌜ r ≤ at + messageRoom ⌝ }
-    ensures { λ r. ⌜ Put (now (out .entry)) at (messageOf number (now (line .entry)) read) r (now (out .exit)) ⌝ }
-{
-    let end = say_expected(number, read, out, at);
-    match read {
-        Line::BadOperation(word) | Line::BadNumber(word) | Line::TrailingText(word) => {
-            put_found(line::word_bytes(line, word), out, end)
-        }
-        _ => end,
-    }
-}
-
-// Writes at a place what is said of a line that was read so, and answers the place after it. Where there may be no room
-// for a message, nothing is written.
+// Writes at a place what a bad line should have been and what it is, of any other line nothing, and answers the place
+// after it. Where there may be no room for a message, nothing is written.
 pub fn put(line: &[u8], read: Line, number: u64, out: &mut [u8], at: usize) -> usize
     ensures { λ r. ⌜ r ≤ at + messageRoom ⌝ }
     ensures { λ r.
@@ -117,5 +102,11 @@ pub fn put(line: &[u8], read: Line, number: u64, out: &mut [u8], at: usize) -> u
     if out.len() - at < ROOM {
         return at;
     }
-    put_message(line, read, number, out, at)
+    let end = say_expected(number, read, out, at);
+    match read {
+        Line::BadOperation(word) | Line::BadNumber(word) | Line::TrailingText(word) => {
+            put_found(line::word_bytes(line, word), out, end)
+        }
+        _ => end,
+    }
 }
