@@ -35,10 +35,7 @@ fn agree(outputs: &[u8], voting: u32, p: Places, i: usize, j: usize) -> bool
     requires { ⌜ Placed (rowOf voting) (now outputs) p × (i < p .replicas) × (j < p .replicas) ⌝ }
     ensures { λ r. ⌜ r ≡ agree (rowOf voting) (blockIn (now (outputs .entry)) p) i j ⌝ }
 {
-    if !votes(voting, i) {
-        return false;
-    }
-    if !votes(voting, j) {
+    if !(votes(voting, i) & votes(voting, j)) {
         return false;
     }
     alike::same(block(outputs, p, i), block(outputs, p, j))
