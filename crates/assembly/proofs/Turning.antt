@@ -12,13 +12,13 @@ use Rattle.writing.proofs.Parts.{drop-take}
 use Rattle.numbers.proofs.Cut.{take-min}
 use Rattle.assembly.specs.Batch.{unended, requestsIn, messagesIn, doneOf, fits, admitted}
 use Rattle.assembly.specs.Pieces.{longestStart}
-use Rattle.assembly.specs.Turn.{textIn, Outcome, outcome}
+use Rattle.assembly.specs.Turn.{textIn, Taken, assemble}
 use Rattle.assembly.specs.declared.Done.{Done}
 use Rattle.assembly.proofs.Gathering.{Gathers}
 use Rattle.assembly.proofs.Room.{Admits, room-left}
 
 -- what a turn answers and leaves, and the front of a buffer as it is lent
-abbrev pub turned : (kept next requests messages : ℕ) → List ℕ → List ℕ → List ℕ → Outcome
+abbrev pub turned : (kept next requests messages : ℕ) → List ℕ → List ℕ → List ℕ → Taken
 turned kept next requests messages input out errors =
     record {
       turn = record { kept = kept; next = next; requests = requests; messages = messages };
@@ -69,8 +69,8 @@ module _ (input : List ℕ) (kept got number : ℕ) (out errors : List ℕ) {end
         → (out′ ≡ overwrite out 0 (requestsIn (front len buffer)))
         × (errors′ ≡ overwrite errors 0 (messagesIn number (front len buffer)))
         → turned k (done .next) (done .requests) (done .messages) input′ out′ errors′
-        ≡ outcome input kept got number out errors
-    unfolding outcome
+        ≡ assemble input kept got number out errors
+    unfolding assemble
     a-turn few (size, p) (q, r) =
         let all = take-min longestStart (len - done .used) (drop (done .used) buffer) few in
         let start = all ∙ ap (take longestStart) left in

@@ -11,7 +11,7 @@ use lib.ListN.{length, take, drop}
 use lib.Seq.{take-add, take-suc-set, take-append-seam}
 use Rattle.assembly.specs.Batch.{newline, fits, admitted}
 use Rattle.assembly.specs.Pieces.{startOf}
-use Rattle.assembly.specs.Turn.{gathered, textEnd, textIn, outcome}
+use Rattle.assembly.specs.Turn.{gathered, textEnd, textIn, assemble}
 
 module _ (input : List ℕ) (kept got : ℕ) where
   pub text-read : (got ≡ 0 → ⊥) → kept + got ≤ length input
@@ -30,7 +30,7 @@ module _ (input : List ℕ) (kept got : ℕ) where
 
   pub start-first : (number : ℕ) (out errors : List ℕ)
       → fits (length (textIn input kept got)) number (length out) (length errors) ≡ true
-      → let o = outcome input kept got number out errors in
+      → let o = assemble input kept got number out errors in
       take (o .turn .kept) (o .input) ≡ startOf (textIn input kept got)
-  unfolding outcome admitted
+  unfolding assemble admitted
   start-first number out errors room = rw room (take-append-seam (startOf (textIn input kept got)) _)

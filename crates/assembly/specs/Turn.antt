@@ -24,15 +24,15 @@ abbrev pub textIn : List ℕ → ℕ → ℕ → List ℕ
 textIn input kept got = take (textEnd (length input) kept got) (gathered input kept got)
 
 -- what a turn answers, and what it leaves in the buffers
-pub record Outcome : Type 0 where
+pub record Taken : Type 0 where
   pub turn : Turn
   pub input : List ℕ
   pub out : List ℕ
   pub errors : List ℕ
 
 -- the text is read, and the start of its unfinished line put at the front of the input
-unfoldable pub outcome : List ℕ → ℕ → ℕ → ℕ → List ℕ → List ℕ → Outcome
-outcome input kept got number out errors =
+unfoldable pub assemble : List ℕ → ℕ → ℕ → ℕ → List ℕ → List ℕ → Taken
+assemble input kept got number out errors =
     let text : List ℕ = admitted (textIn input kept got) number (length out) (length errors) in
     let done : Done = doneOf number text in
     let start : List ℕ = startOf text in

@@ -11,7 +11,7 @@ ghost use Rattle.line.specs.Line.{requestOf};
 ghost use Rattle.messages.specs.Put.{Put};
 ghost use Rattle.assembly.specs.Batch.{unended, requestsIn, messagesIn, doneOf, fits};
 ghost use Rattle.assembly.specs.Pieces.{longestStart};
-ghost use Rattle.assembly.specs.Turn.{gathered, textEnd, outcome};
+ghost use Rattle.assembly.specs.Turn.{gathered, textEnd, assemble};
 
 // Room for any message.
 pub const MESSAGE: usize = messages::ROOM;
@@ -141,7 +141,7 @@ pub fn assemble(
       out = now (out .exit);
       errors = now (errors .exit);
     })
-        ≡ outcome (now (input .entry)) kept got number (now (out .entry)) (now (errors .entry)) ⌝ }
+        ≡ assemble (now (input .entry)) kept got number (now (out .entry)) (now (errors .entry)) ⌝ }
     ensures { λ r. ⌜ (r .kept ≤ longestStart) × (r .requests ≤ length (now (out .exit))) ⌝ }
     ensures { λ r. ⌜ r .messages ≤ length (now (errors .exit)) ⌝ }
 {

@@ -23,7 +23,7 @@ use Rattle.alike.specs.Alike.{alike}
 use Rattle.search.specs.Tabulate.{tabulate}
 use Rattle.vote.specs.Decide.{digits, leader, count, decide}
 use Rattle.alike.proofs.Equal.{alike-equal}
-use Rattle.known_answers.specs.Calls.{Row, row, numbers, answerToOpening, clear, answerTo, leftAfter, placeOf, showing, voting}
+use Rattle.known_answers.specs.Calls.{Row, example, numbers, answerToOpening, clear, answerTo, leftAfter, placeOf, showing, voting}
 use Rattle.known_answers.specs.Calls.{inspecting}
 use Rattle.known_answers.specs.Table.{table, start, oneObject, copying, bytesVoted}
 use Rattle.known_answers.specs.Further.{further, lastSet, firstSet, atCapacity, afterSeven, letters, kept}
@@ -55,21 +55,21 @@ each (r ∷ rows) e zero h = alike-equal (r .computed) (r .expected) (both (alik
 each (r ∷ rows) e (suc i) h = each rows (both (alike (r .computed) (r .expected)) (allAlike rows) e .1) i (le-of-suc-le-suc h)
 
 computes : allAlike table ≡ true
-unfolding allAlike table start answerTo leftAfter oneObject numbers copying bytesVoted voting row indexOf indexAfter first
+unfolding allAlike table start answerTo leftAfter oneObject numbers copying bytesVoted voting example indexOf indexAfter first
     isOneOf slotSize bitmapAt putByte nextClear parse lengths admit probe allocate free space remaining copy serving opening
     alike tabulate digits leader count decide
 computes = refl
 
 further-computes : allAlike further ≡ true
 unfolding allAlike further lastSet firstSet atCapacity afterSeven letters kept nearHalf classFive onlySlotSet counting
-    shownWith shownThere eachAbove answerToOpening clear answerTo leftAfter start oneObject copying placeOf showing numbers voting row
+    shownWith shownThere eachAbove answerToOpening clear answerTo leftAfter start oneObject copying placeOf showing numbers voting example
     indexOf indexAfter first isOneOf slotSize bitmapAt putByte nextClear parse lengths admit probe allocate free space
     remaining copy read serving opening alike tabulate digits leader count decide
 further-computes = refl
 
 canaries-compute : allAlike canaries ≡ true
 unfolding allAlike canaries openedWith newly overUneven part overrun freeing newHits noneClear fewClear laterClear changed
-    twoHit inspecting numbers row first those isOneOf slotSize bitmapAt putByte parse lengths admit probe allocate free
+    twoHit inspecting numbers example first those isOneOf slotSize bitmapAt putByte parse lengths admit probe allocate free
     serving opening inspection alike tabulate
 canaries-compute = refl
 

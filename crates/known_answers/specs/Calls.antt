@@ -21,8 +21,8 @@ pub record Row : Type 0 where
   pub computed : List ℕ
   pub expected : List ℕ
 
-unfoldable pub row : List ℕ → List ℕ → Row
-row computed expected = record { computed = computed; expected = expected }
+unfoldable pub example : List ℕ → List ℕ → Row
+example computed expected = record { computed = computed; expected = expected }
 
 abbrev pub seeds : ℕ → ℕ → Generator
 seeds z w = record { z = z; w = w }

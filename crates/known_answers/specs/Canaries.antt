@@ -11,7 +11,7 @@ use Rattle.rules.specs.Open.{setup}
 use Rattle.rules.specs.Serve.{lent}
 use Rattle.rules.specs.Call.{Call, State, stateOf, serveOn, stateAfter, opening}
 use Rattle.rules.specs.Inspect.{isHit}
-use Rattle.known_answers.specs.Calls.{Row, row, numbers, heapOf, toAllocate, toFree, inspecting}
+use Rattle.known_answers.specs.Calls.{Row, example, numbers, heapOf, toAllocate, toFree, inspecting}
 
 -- ---- regions of 1,024 bytes: class 0 has slots of 8 bytes, class 5 of 256 (heap from 5,120), class 7 one slot (heap
 -- from 7,168), class 8 none
@@ -83,41 +83,41 @@ twoHit = changed (43 ∷ 5_376 ∷ [])
 unfoldable pub canaries : List Row
 canaries =
     -- an opening fills each slot from its first byte on
-    row (part 0 9 (newly .heap)) (1 ∷ 2 ∷ 3 ∷ 4 ∷ 1 ∷ 2 ∷ 3 ∷ 4 ∷ 1 ∷ [])
+    example (part 0 9 (newly .heap)) (1 ∷ 2 ∷ 3 ∷ 4 ∷ 1 ∷ 2 ∷ 3 ∷ 4 ∷ 1 ∷ [])
     -- a class's only slot, at its start and its end, and then a region without slots
-    ∷ row (part 7_168 4 (newly .heap)) (1 ∷ 2 ∷ 3 ∷ 4 ∷ [])
-    ∷ row (part 8_188 6 (newly .heap)) (1 ∷ 2 ∷ 3 ∷ 4 ∷ 0xaa ∷ 0xaa ∷ [])
-    ∷ row (part 12_287 1 (newly .heap)) (0xaa ∷ [])
+    ∷ example (part 7_168 4 (newly .heap)) (1 ∷ 2 ∷ 3 ∷ 4 ∷ [])
+    ∷ example (part 8_188 6 (newly .heap)) (1 ∷ 2 ∷ 3 ∷ 4 ∷ 0xaa ∷ 0xaa ∷ [])
+    ∷ example (part 12_287 1 (newly .heap)) (0xaa ∷ [])
     -- what lies in no slot is kept, each byte as it was: a region without slots at its start, and the heap's end
-    ∷ row (part 8_190 6 overUneven) (7 ∷ 8 ∷ 160 ∷ 161 ∷ 162 ∷ 163 ∷ [])
-    ∷ row (part 12_284 4 overUneven) (236 ∷ 237 ∷ 238 ∷ 239 ∷ [])
+    ∷ example (part 8_190 6 overUneven) (7 ∷ 8 ∷ 160 ∷ 161 ∷ 162 ∷ 163 ∷ [])
+    ∷ example (part 12_284 4 overUneven) (236 ∷ 237 ∷ 238 ∷ 239 ∷ [])
     -- the pattern is kept behind the counts
-    ∷ row (newly .metadata) (1 ∷ 0 ∷ 0 ∷ 0 ∷ 1 ∷ replicate 51 0 ++ (1 ∷ 2 ∷ 3 ∷ 4 ∷ replicate 34 0))
+    ∷ example (newly .metadata) (1 ∷ 0 ∷ 0 ∷ 0 ∷ 1 ∷ replicate 51 0 ++ (1 ∷ 2 ∷ 3 ∷ 4 ∷ replicate 34 0))
     -- a refused opening leaves everything as it was
-    ∷ row (part 0 9 (openedWith 0 .heap)) (replicate 9 0xaa)
-    ∷ row (openedWith 0 .metadata) (replicate 94 0xff)
+    ∷ example (part 0 9 (openedWith 0 .heap)) (replicate 9 0xaa)
+    ∷ example (openedWith 0 .metadata) (replicate 94 0xff)
     -- a free fills its slot and no byte beside it, with the pattern in the metadata
-    ∷ row (freeing (overrun .metadata) 640) (0 ∷ 8 ∷ 0xff ∷ 1 ∷ 2 ∷ 3 ∷ 4 ∷ 1 ∷ 2 ∷ 3 ∷ 4 ∷ 0xff ∷ [])
-    ∷ row (freeing (set (overrun .metadata) canaryAt 5) 640) (0 ∷ 8 ∷ 0xff ∷ 5 ∷ 2 ∷ 3 ∷ 4 ∷ 5 ∷ 2 ∷ 3 ∷ 4 ∷ 0xff ∷ [])
+    ∷ example (freeing (overrun .metadata) 640) (0 ∷ 8 ∷ 0xff ∷ 1 ∷ 2 ∷ 3 ∷ 4 ∷ 1 ∷ 2 ∷ 3 ∷ 4 ∷ 0xff ∷ [])
+    ∷ example (freeing (set (overrun .metadata) canaryAt 5) 640) (0 ∷ 8 ∷ 0xff ∷ 5 ∷ 2 ∷ 3 ∷ 4 ∷ 5 ∷ 2 ∷ 3 ∷ 4 ∷ 0xff ∷ [])
     -- a refused one fills nothing: no start, a clear slot, and none counted
-    ∷ row (freeing (overrun .metadata) 641) (9 ∷ 0 ∷ replicate 10 0xff)
-    ∷ row (freeing (overrun .metadata) 648) (10 ∷ 0 ∷ replicate 10 0xff)
-    ∷ row (freeing (set (overrun .metadata) countsAt 0) 640) (13 ∷ 0 ∷ replicate 10 0xff)
+    ∷ example (freeing (overrun .metadata) 641) (9 ∷ 0 ∷ replicate 10 0xff)
+    ∷ example (freeing (overrun .metadata) 648) (10 ∷ 0 ∷ replicate 10 0xff)
+    ∷ example (freeing (set (overrun .metadata) countsAt 0) 640) (13 ∷ 0 ∷ replicate 10 0xff)
     -- nothing is hit where the heap was newly opened
-    ∷ row newHits []
+    ∷ example newHits []
     -- one byte changed, the last of a clear slot; the list keeps its later entries
-    ∷ row (inspecting (changed (5_631 ∷ [])) fewClear (7 ∷ 8 ∷ [])) (0 ∷ 1 ∷ 5_376 ∷ 8 ∷ [])
+    ∷ example (inspecting (changed (5_631 ∷ [])) fewClear (7 ∷ 8 ∷ [])) (0 ∷ 1 ∷ 5_376 ∷ 8 ∷ [])
     -- a byte changed in a live slot, and one in no slot
-    ∷ row (inspecting (changed (64 ∷ 8_192 ∷ [])) fewClear (7 ∷ 8 ∷ [])) (0 ∷ 0 ∷ 7 ∷ 8 ∷ [])
+    ∷ example (inspecting (changed (64 ∷ 8_192 ∷ [])) fewClear (7 ∷ 8 ∷ [])) (0 ∷ 0 ∷ 7 ∷ 8 ∷ [])
     -- slots hit in two classes, with a list that is just long enough, and with one that is an entry too short
-    ∷ row (inspecting twoHit fewClear (7 ∷ 8 ∷ [])) (0 ∷ 2 ∷ 40 ∷ 5_376 ∷ [])
-    ∷ row (inspecting twoHit fewClear (7 ∷ [])) (14 ∷ 0 ∷ 7 ∷ [])
+    ∷ example (inspecting twoHit fewClear (7 ∷ 8 ∷ [])) (0 ∷ 2 ∷ 40 ∷ 5_376 ∷ [])
+    ∷ example (inspecting twoHit fewClear (7 ∷ [])) (14 ∷ 0 ∷ 7 ∷ [])
     -- a byte changed in each of nine slots: of slot 96 of class 0 the first, of the next the second, .., of slot 103
     -- the eighth, and of class 7's only slot the 300th
-    ∷ row (inspecting (changed (768 ∷ 777 ∷ 786 ∷ 795 ∷ 804 ∷ 813 ∷ 822 ∷ 831 ∷ 7_467 ∷ [])) laterClear (replicate 9 7))
+    ∷ example (inspecting (changed (768 ∷ 777 ∷ 786 ∷ 795 ∷ 804 ∷ 813 ∷ 822 ∷ 831 ∷ 7_467 ∷ [])) laterClear (replicate 9 7))
     (0 ∷ 9 ∷ 768 ∷ 776 ∷ 784 ∷ 792 ∷ 800 ∷ 808 ∷ 816 ∷ 824 ∷ 7_168 ∷ [])
     -- refused before that as requests are: 65 of 128 counted in class 0, and a heap and metadata a byte short
-    ∷ row (inspecting twoHit (set fewClear countsAt 65) (7 ∷ [])) (13 ∷ 0 ∷ 7 ∷ [])
-    ∷ row (inspecting (drop 1 twoHit) fewClear (7 ∷ [])) (2 ∷ 0 ∷ 7 ∷ [])
-    ∷ row (inspecting twoHit (drop 1 fewClear) (7 ∷ [])) (3 ∷ 0 ∷ 7 ∷ [])
+    ∷ example (inspecting twoHit (set fewClear countsAt 65) (7 ∷ [])) (13 ∷ 0 ∷ 7 ∷ [])
+    ∷ example (inspecting (drop 1 twoHit) fewClear (7 ∷ [])) (2 ∷ 0 ∷ 7 ∷ [])
+    ∷ example (inspecting twoHit (drop 1 fewClear) (7 ∷ [])) (3 ∷ 0 ∷ 7 ∷ [])
     ∷ []

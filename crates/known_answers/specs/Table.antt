@@ -8,7 +8,7 @@ use Rattle.geometry.specs.Layout.{layoutOf, classOf, metadataLength}
 use Rattle.rules.specs.Open.{setup}
 use Rattle.rules.specs.Serve.{lent}
 use Rattle.rules.specs.Call.{Call, serve, opening}
-use Rattle.known_answers.specs.Calls.{Row, row, seeds, numbers, heapOf, toAllocate, toFree, toCopy, toCopyString}
+use Rattle.known_answers.specs.Calls.{Row, example, seeds, numbers, heapOf, toAllocate, toFree, toCopy, toCopyString}
 use Rattle.known_answers.specs.Calls.{toCopyPadded, answerTo, leftAfter, voting}
 
 -- ---- a heap with regions of 4,096 bytes, opened with z = 1, w = 1 and zeros as the pattern
@@ -41,21 +41,21 @@ bytesVoted blocks = voting blocks (length blocks) 1 1
 
 unfoldable pub table : List Row
 table =
-    row (drawn (next (seeds 1 1)) ∷ drawn (next (next (seeds 1 1))) ∷ drawn (next (next (next (seeds 1 1)))) ∷ [])
+    example (drawn (next (seeds 1 1)) ∷ drawn (next (next (seeds 1 1))) ∷ drawn (next (next (next (seeds 1 1)))) ∷ [])
     (2_422_818_384 ∷ 1_583_405_312 ∷ 3_876_119_375 ∷ [])
-    ∷ row (drawn (next (seeds 5 65_535)) ∷ []) (408_730_032 ∷ [])
-    ∷ row oneObject (set (set (set (set (set (set (replicate 190 0) 0 0x69) 1 0x90) 4 0x50) 5 0x46) 8 0x01) 70 0x01)
-    ∷ row (classOf G 8 ∷ classOf G 9 ∷ []) (0 ∷ 1 ∷ [])
-    ∷ row (answerTo R start (toAllocate 2_048) ++ answerTo R (leftAfter R start (toAllocate 2_048)) (toAllocate 2_048))
+    ∷ example (drawn (next (seeds 5 65_535)) ∷ []) (408_730_032 ∷ [])
+    ∷ example oneObject (set (set (set (set (set (set (replicate 190 0) 0 0x69) 1 0x90) 4 0x50) 5 0x46) 8 0x01) 70 0x01)
+    ∷ example (classOf G 8 ∷ classOf G 9 ∷ []) (0 ∷ 1 ∷ [])
+    ∷ example (answerTo R start (toAllocate 2_048) ++ answerTo R (leftAfter R start (toAllocate 2_048)) (toAllocate 2_048))
     (0 ∷ 32_768 ∷ 7 ∷ 0 ∷ [])
-    ∷ row (copying (toCopy 643) (1 ∷ 2 ∷ 3 ∷ 4 ∷ 5 ∷ 6 ∷ 7 ∷ 8 ∷ []))
+    ∷ example (copying (toCopy 643) (1 ∷ 2 ∷ 3 ∷ 4 ∷ 5 ∷ 6 ∷ 7 ∷ 8 ∷ []))
     (0 ∷ 5 ∷ 0xff ∷ 0xff ∷ 0xff ∷ 1 ∷ 2 ∷ 3 ∷ 4 ∷ 5 ∷ 0xff ∷ [])
-    ∷ row (copying (toCopyString 640) (0x41 ∷ 0x42 ∷ 0x00 ∷ 0x43 ∷ []))
+    ∷ example (copying (toCopyString 640) (0x41 ∷ 0x42 ∷ 0x00 ∷ 0x43 ∷ []))
     (0 ∷ 3 ∷ 0x41 ∷ 0x42 ∷ 0x00 ∷ 0xff ∷ 0xff ∷ 0xff ∷ 0xff ∷ 0xff ∷ 0xff ∷ [])
-    ∷ row (copying (toCopyPadded 640 4) (0x41 ∷ 0x00 ∷ 0x43 ∷ []))
+    ∷ example (copying (toCopyPadded 640 4) (0x41 ∷ 0x00 ∷ 0x43 ∷ []))
     (0 ∷ 4 ∷ 0x41 ∷ 0x00 ∷ 0x00 ∷ 0x00 ∷ 0xff ∷ 0xff ∷ 0xff ∷ 0xff ∷ 0xff ∷ [])
-    ∷ row (answerTo R start (toFree 49_152)) (8 ∷ 0 ∷ [])
-    ∷ row (bytesVoted (0x41 ∷ 0x42 ∷ 0x41 ∷ [])) (0 ∷ 5 ∷ 2 ∷ 0x41 ∷ [])
-    ∷ row (bytesVoted (0x42 ∷ 0x41 ∷ 0x41 ∷ 0x42 ∷ [])) (0 ∷ 9 ∷ 2 ∷ 0x42 ∷ [])
-    ∷ row (bytesVoted (0x41 ∷ 0x42 ∷ 0x43 ∷ [])) (12 ∷ 0 ∷ 0 ∷ 0xff ∷ [])
+    ∷ example (answerTo R start (toFree 49_152)) (8 ∷ 0 ∷ [])
+    ∷ example (bytesVoted (0x41 ∷ 0x42 ∷ 0x41 ∷ [])) (0 ∷ 5 ∷ 2 ∷ 0x41 ∷ [])
+    ∷ example (bytesVoted (0x42 ∷ 0x41 ∷ 0x41 ∷ 0x42 ∷ [])) (0 ∷ 9 ∷ 2 ∷ 0x42 ∷ [])
+    ∷ example (bytesVoted (0x41 ∷ 0x42 ∷ 0x43 ∷ [])) (12 ∷ 0 ∷ 0 ∷ 0xff ∷ [])
     ∷ []

@@ -12,10 +12,10 @@ use lib.Seq.{length-take-le, getD-take, getD-drop}
 use Rattle.search.specs.First.{first}
 use Rattle.search.proofs.First.{first-range}
 use Rattle.search.proofs.Blocks.{first-inside}
-use Rattle.span.specs.Pattern.{patternSize, isOther, isByte, isHit, isHitOver, firstHit, Laid}
+use Rattle.span.specs.Pattern.{patternSize, isOther, isByte, isSought, isSoughtOver, firstSought, Laid}
 
-pub hit-le : (equal : Bool) (period : ℕ) (pattern b : List ℕ) → firstHit equal period pattern b ≤ length b
-hit-le equal period pattern b = omega (arith, first-range (isHitOver equal period pattern b) 0 (length b))
+pub hit-le : (equal : Bool) (period : ℕ) (pattern b : List ℕ) → firstSought equal period pattern b ≤ length b
+hit-le equal period pattern b = omega (arith, first-range (isSoughtOver equal period pattern b) 0 (length b))
 
 pub part-length : (b : List ℕ) (at n : ℕ) → at + n ≤ length b → length (take (at + n - at) (drop at b)) ≡ n
 part-length b at n fits = rw (add-sub-cancel-left at n) (length-take-le n (drop at b) (rw length-drop (omega arith)))
@@ -26,10 +26,10 @@ module _ (equal : Bool) {period : ℕ} {pattern : List ℕ} (b : List ℕ) {bloc
   place = at % period
 
   abbrev here : ℕ → Bool
-  here = isHit equal (take block (drop place pattern)) (take block (drop at b))
+  here = isSought equal (take block (drop place pattern)) (take block (drop at b))
 
   abbrev anywhere : ℕ → Bool
-  anywhere = isHitOver equal period pattern b
+  anywhere = isSoughtOver equal period pattern b
 
   part-hit : (i : ℕ) → i < block → here i ≡ anywhere (at + i)
   part-hit i l =
@@ -40,11 +40,11 @@ module _ (equal : Bool) {period : ℕ} {pattern : List ℕ} (b : List ℕ) {bloc
       (rw (getD-take block (drop place pattern) i 0 l, getD-drop place pattern i 0, turned))
 
   -- whether the first hit is in it, where none comes before it
-  pub block-found : {t : Bool} → at + block ≤ length b → at ≤ firstHit equal period pattern b
+  pub block-found : {t : Bool} → at + block ≤ length b → at ≤ firstSought equal period pattern b
       → (let part = take (at + block - at) (drop at b) in
       let held = take (place + block - place) (drop place pattern) in
-      t ≡ ltb (first (isHit equal held part) 0 (length part)) (length part))
-      → t ≡ ltb (firstHit equal period pattern b) (at + block)
+      t ≡ ltb (first (isSought equal held part) 0 (length part)) (length part))
+      → t ≡ ltb (firstSought equal period pattern b) (at + block)
   block-found fits before seen =
       rw (part-length b at block fits, add-sub-cancel-left at block, add-sub-cancel-left place block) at seen
       ∙ first-inside here anywhere at block (length b) part-hit fits before
@@ -66,10 +66,10 @@ module _ (pattern : List ℕ) (size : length pattern ≡ patternSize) where
       }
 
 -- where no byte is left over
-pub others : (pattern b : List ℕ) {r : ℕ} → (let end = firstHit false patternSize pattern b in r ≡ end - end % 1)
+pub others : (pattern b : List ℕ) {r : ℕ} → (let end = firstSought false patternSize pattern b in r ≡ end - end % 1)
     → r ≡ first (isOther pattern b) 0 (length b)
 others pattern b {r} e =
-    let all : r ≡ firstHit false patternSize pattern b = omega arith in
+    let all : r ≡ firstSought false patternSize pattern b = omega arith in
     all
     ∙ ap (λ (test : ℕ → Bool). first test 0 (length b))
     (fun-ext (λ i. differs (eqb (getD b i 0) (getD pattern (i % patternSize) 0))))
@@ -93,10 +93,10 @@ module _ (byte n : ℕ) where
       }
 
   -- where no byte is left over
-  pub equals : (b : List ℕ) {r : ℕ} → 0 < n → (let end = firstHit true 1 (replicate n byte) b in r ≡ end - end % 1)
+  pub equals : (b : List ℕ) {r : ℕ} → 0 < n → (let end = firstSought true 1 (replicate n byte) b in r ≡ end - end % 1)
       → r ≡ first (isByte byte b) 0 (length b)
   equals b {r} some e =
-      let all : r ≡ firstHit true 1 (replicate n byte) b = omega arith in
+      let all : r ≡ firstSought true 1 (replicate n byte) b = omega arith in
       all
       ∙ ap (λ (test : ℕ → Bool). first test 0 (length b))
       (fun-ext (λ i. rw (mod-one, getD-replicate n 0 byte 0 some) (agrees (isByte byte b i))))

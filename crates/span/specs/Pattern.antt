@@ -21,15 +21,15 @@ isByte byte bytes i = eqb (getD bytes i 0) byte
 
 -- ---- both, as they are sought: a hit is equal or not
 
-abbrev pub isHit : Bool → List ℕ → List ℕ → ℕ → Bool
-isHit equal pattern bytes i = Bool·beq equal (eqb (getD bytes i 0) (getD pattern i 0))
+abbrev pub isSought : Bool → List ℕ → List ℕ → ℕ → Bool
+isSought equal pattern bytes i = Bool·beq equal (eqb (getD bytes i 0) (getD pattern i 0))
 
 -- what is held against begins anew after so many bytes
-abbrev pub isHitOver : Bool → ℕ → List ℕ → List ℕ → ℕ → Bool
-isHitOver equal period pattern bytes i = Bool·beq equal (eqb (getD bytes i 0) (getD pattern (i % period) 0))
+abbrev pub isSoughtOver : Bool → ℕ → List ℕ → List ℕ → ℕ → Bool
+isSoughtOver equal period pattern bytes i = Bool·beq equal (eqb (getD bytes i 0) (getD pattern (i % period) 0))
 
-abbrev pub firstHit : Bool → ℕ → List ℕ → List ℕ → ℕ
-firstHit equal period pattern bytes = first (isHitOver equal period pattern bytes) 0 (length bytes)
+abbrev pub firstSought : Bool → ℕ → List ℕ → List ℕ → ℕ
+firstSought equal period pattern bytes = first (isSoughtOver equal period pattern bytes) 0 (length bytes)
 
 -- a pattern laid out far enough for blocks that lie side by side
 pub record Laid (pattern : List ℕ) (period block : ℕ) : Type 0 where

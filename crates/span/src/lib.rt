@@ -4,7 +4,7 @@ ghost use Prim.Native.Nat.{_-_, _%_, _≤_};
 ghost use lib.Dec.{ltb};
 ghost use lib.ListN.{length};
 ghost use Rattle.search.specs.First.{first};
-ghost use Rattle.span.specs.Pattern.{isOther, isByte, isHit, firstHit, Laid};
+ghost use Rattle.span.specs.Pattern.{isOther, isByte, isSought, firstSought, Laid};
 
 // The bytes of a pattern.
 pub const PATTERN: usize = 64;
@@ -16,13 +16,13 @@ const MIDDLE: usize = 32;
 
 const SHORT: usize = 8;
 
-// Whether a byte of a block is a hit: equal to that of the pattern, or not. The loop has no early exit, so that it
+// Whether a byte of a block is one sought: equal to that of the pattern, or not. The loop has no early exit, so that it
 // vectorises.
-fn has_hit(block: &[u8], pattern: &[u8], equal: bool) -> bool
+fn has_sought(block: &[u8], pattern: &[u8], equal: bool) -> bool
     requires { ⌜ length (now block) ≤ length (now pattern) ⌝ }
     ensures { λ r.
         let b = now (block .entry) in
-        ⌜ r ≡ ltb (first (isHit equal (now (pattern .entry)) b) 0 (length b)) (length b) ⌝ }
+        ⌜ r ≡ ltb (first (isSought equal (now (pattern .entry)) b) 0 (length b)) (length b) ⌝ }
 {
     let mut found = false;
     let mut i: usize = 0;
@@ -33,7 +33,7 @@ fn has_hit(block: &[u8], pattern: &[u8], equal: bool) -> bool
     found
 }
 
-// Passes over whole blocks without a hit, from a place that none comes before. How many bytes are left is counted
+// Passes over whole blocks without one, from a place that none comes before. How many bytes are left is counted
 // apart: the compiler makes a shorter loop of it.
 fn skip(
     bytes: &[u8],
@@ -43,10 +43,10 @@ fn skip(
     from: usize,
     block: usize,
 ) -> usize
-    requires { ⌜ (from ≤ firstHit equal period (now pattern) (now bytes)) × (from % block ≡ 0)
+    requires { ⌜ (from ≤ firstSought equal period (now pattern) (now bytes)) × (from % block ≡ 0)
         × Laid (now pattern) period block ⌝ }
     ensures { λ r.
-        let end = firstHit equal period (now (pattern .entry)) (now (bytes .entry)) in
+        let end = firstSought equal period (now (pattern .entry)) (now (bytes .entry)) in
         ⌜ r ≡ end - end % block ⌝ }
 {
     let mut at = from;
@@ -54,7 +54,7 @@ fn skip(
     while block <= left {
         let next = at + block;
         let place = at % period;
-        if has_hit(&bytes[at..next], &pattern[place..place + block], equal) {
+        if has_sought(&bytes[at..next], &pattern[place..place + block], equal) {
             return at;
         }
         at = next;

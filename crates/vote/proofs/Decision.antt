@@ -17,7 +17,7 @@ use Rattle.search.proofs.Tabulate.{tabulate-at, tabulate-length}
 use Rattle.writing.specs.Overwrite.{overwrite}
 use Rattle.vote.specs.declared.Places.{Places}
 use Rattle.vote.specs.declared.Elected.{Elected}
-use Rattle.vote.specs.Groups.{Placed, Counted, electedOf}
+use Rattle.vote.specs.Groups.{Placed, Countable, electedOf}
 use Rattle.vote.specs.Decide.{firstOf, blockIn, agree, row, agreements, votes, maskOf}
 use Rattle.vote.specs.Decide.{invalid, won, lost, count, sideBySide}
 use Rattle.vote.proofs.Comparing.{out-agrees, agrees-out, agree-self}
@@ -45,7 +45,7 @@ module _ (voting : List Bool) (block : ℕ → List ℕ) (i : ℕ) (few : i < 16
 
 -- past the replicas nobody votes
 pub counted : {voting : List Bool} {outputs : List ℕ} {p : Places} → Placed voting outputs p
-    → Counted (agreements voting (blockIn outputs p)) (p .replicas)
+    → Countable (agreements voting (blockIn outputs p)) (p .replicas)
 counted {voting} {outputs} {p} a =
     record {
       some = a .some;

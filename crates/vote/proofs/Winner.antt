@@ -14,7 +14,7 @@ use mir.Val.{boolByte}
 use lib.Dec.{ltb}
 use borrow.Author.Tests.{lt-ltb, le-ltb}
 use Rattle.vote.specs.Decide.{digits, leader, votes, maskOf}
-use Rattle.vote.specs.Groups.{Counted}
+use Rattle.vote.specs.Groups.{Countable}
 
 -- ---- digits
 
@@ -150,7 +150,7 @@ module _ {table : List (List Bool)} {k : ℕ} where
         rw add-one record { within = omega arith; first = sym (o .0); has = o .1 }
 
   -- all counted: who leads them leads all sixteen
-  pub led-all : {best top i : ℕ} → Led table k best top i → k ≤ i → Counted table k
+  pub led-all : {best top i : ℕ} → Led table k best top i → k ≤ i → Countable table k
       → (best ≡ leader table 16) × (top ≡ votes (getD table best [])) × (best < k)
   led-all {i = i} l h c =
       let q : i ≡ k = omega (arith, l .within) in

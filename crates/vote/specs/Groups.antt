@@ -34,7 +34,7 @@ abbrev pub together : List Bool → List ℕ → ℕ → ℕ → Bool
 together voting groups i j = getD voting i false && eqb (getD groups i 0) (getD groups j 0)
 
 -- what counting relies on: at least one replica, no more than sixteen, and past them nobody who agrees with anyone
-pub record Counted (table : List (List Bool)) (k : ℕ) : Type 0 where
+pub record Countable (table : List (List Bool)) (k : ℕ) : Type 0 where
   pub some : 0 < k
   pub few : k ≤ most
   pub rows : (i j : ℕ) → i < most → k ≤ i → getD (getD table i []) j false ≡ false

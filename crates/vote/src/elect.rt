@@ -7,7 +7,7 @@ ghost use Prim.Native.Nat.{ℕ, _≤_, _<_};
 ghost use mathlib.Core.Bool.{false};
 ghost use lib.ListN.{getD};
 ghost use Rattle.vote.specs.Decide.{blockIn, agreements, digits};
-ghost use Rattle.vote.specs.Groups.{rowOf, Placed, Counted, electedOf};
+ghost use Rattle.vote.specs.Groups.{rowOf, Placed, Countable, electedOf};
 
 // A row as digits in base 1, which counts its replicas, or in base 2, which is their mask. It has none past the first n.
 fn digits(row: [bool; 16], base: u32, n: usize) -> u32
@@ -25,7 +25,7 @@ fn digits(row: [bool; 16], base: u32, n: usize) -> u32
 
 // The lowest-numbered replica among those with most votes.
 fn winner(table: [[bool; 16]; 16], replicas: usize) -> Elected
-    requires { ⌜ Counted table replicas ⌝ }
+    requires { ⌜ Countable table replicas ⌝ }
     ensures { λ r. ⌜ (r ≡ electedOf table) × (r .replica < replicas) ⌝ }
 {
     let mut best: usize = 0;
@@ -50,7 +50,8 @@ fn winner(table: [[bool; 16]; 16], replicas: usize) -> Elected
 pub fn elect(outputs: &[u8], voting: u32, p: Places) -> Elected
     requires { ⌜ Placed (rowOf voting) (now outputs) p ⌝ }
     ensures { λ r.
-        ⌜ (r ≡ electedOf (agreements (rowOf voting) (blockIn (now (outputs .entry)) p))) × (r .replica < p .replicas) ⌝ }
+        let table = agreements (rowOf voting) (blockIn (now (outputs .entry)) p) in
+        ⌜ (r ≡ electedOf table) × (r .replica < p .replicas) ⌝ }
 {
     winner(compare::agreements(outputs, voting, p), p.replicas)
 }

@@ -5,7 +5,7 @@ use mathlib.Core.Bool.{true}
 use native.Mathlib.Omega.{arith}
 use borrow.Author.Needs.{needs}
 use lib.ListN.{replicate}
-use Rattle.span.specs.Pattern.{firstHit}
+use Rattle.span.specs.Pattern.{firstSought}
 use Rattle.span.proofs.Parts.{byte-laid, equals}
 use Rattle.span.proofs.other.Statement.{statement}
 use Rattle.span.proofs.other.Tie as tie
@@ -26,7 +26,7 @@ slice-aggregate-skip-2 c = search needs
 skip-requires-2 : tie.Need-skip-requires-2
 skip-requires-2 c κs =
     let a = c .before .before .before .before .args in
-    let end : ℕ = firstHit true 1 (replicate long (a .byte)) (a .bytes .now) in
+    let end : ℕ = firstSought true 1 (replicate long (a .byte)) (a .bytes .now) in
     let far : c .before .skip .result ≡ end - end % 128 = c .before .skip .ensures in
     (omega (arith, far), omega (arith, far), byte-laid (a .byte) long 32 (omega arith) (omega arith))
 
@@ -36,7 +36,7 @@ slice-aggregate-skip-3 c = search needs
 skip-requires-3 : tie.Need-skip-requires-3
 skip-requires-3 c κs =
     let a = c .before .before .before .before .before .before .args in
-    let end : ℕ = firstHit true 1 (replicate long (a .byte)) (a .bytes .now) in
+    let end : ℕ = firstSought true 1 (replicate long (a .byte)) (a .bytes .now) in
     let middle : c .before .skip2 .result ≡ end - end % 32 = c .before .skip2 .ensures in
     (omega (arith, middle), omega (arith, middle), byte-laid (a .byte) long 8 (omega arith) (omega arith))
 
@@ -46,7 +46,7 @@ slice-aggregate-skip-4 c = search needs
 skip-requires-4 : tie.Need-skip-requires-4
 skip-requires-4 c κs =
     let a = c .before .before .before .before .before .before .before .before .args in
-    let end : ℕ = firstHit true 1 (replicate long (a .byte)) (a .bytes .now) in
+    let end : ℕ = firstSought true 1 (replicate long (a .byte)) (a .bytes .now) in
     let near : c .before .skip3 .result ≡ end - end % 8 = c .before .skip3 .ensures in
     (omega (arith, near), omega arith, byte-laid (a .byte) long 1 (omega arith) (omega arith))
 

@@ -6,14 +6,14 @@ use native.Mathlib.Omega.{arith}
 use borrow.Author.Tests.{ltb-true, ltb-false}
 use lib.ListN.{length}
 use Rattle.search.proofs.Blocks.{block-last}
-use Rattle.span.specs.Pattern.{firstHit}
+use Rattle.span.specs.Pattern.{firstSought}
 use Rattle.span.proofs.Parts.{hit-le, part-length, block-found}
 use Rattle.span.proofs.skip.Statement.{statement}
 use Rattle.span.proofs.skip.Tie as tie
 
 abbrev Inv-loop : tie.InvT-loop
 Inv-loop bytes pattern period equal from block at₀ left₀ at left =
-    (at ≤ firstHit equal period pattern bytes) × (at % block ≡ 0) × (at + left ≡ length bytes)
+    (at ≤ firstSought equal period pattern bytes) × (at % block ≡ 0) × (at + left ≡ length bytes)
 
 abbrev μ-loop : tie.MeasureT-loop
 μ-loop bytes pattern period equal from block at₀ left₀ at left = left
@@ -32,33 +32,33 @@ add-next c = omega arith
 rem-place : tie.Need-rem-place Inv-loop μ-loop
 rem-place c = omega arith
 
-sub-has-hit : tie.Need-sub-has-hit Inv-loop μ-loop
-sub-has-hit c = omega arith
+sub-has-sought : tie.Need-sub-has-sought Inv-loop μ-loop
+sub-has-sought c = omega arith
 
-part-has-hit-start : tie.Need-part-has-hit-start Inv-loop μ-loop
-part-has-hit-start c = omega arith
+part-has-sought-start : tie.Need-part-has-sought-start Inv-loop μ-loop
+part-has-sought-start c = omega arith
 
-part-has-hit-end : tie.Need-part-has-hit-end Inv-loop μ-loop
-part-has-hit-end c = omega arith
+part-has-sought-end : tie.Need-part-has-sought-end Inv-loop μ-loop
+part-has-sought-end c = omega arith
 
-add-has-hit : tie.Need-add-has-hit Inv-loop μ-loop
-add-has-hit c =
+add-has-sought : tie.Need-add-has-sought Inv-loop μ-loop
+add-has-sought c =
     let start = c .before .before .before .before .before in
     omega (arith, start .pre .2 .fits (c .before .before .loop .at) (c .before .before .loop .inv .1))
 
-sub-has-hit-2 : tie.Need-sub-has-hit-2 Inv-loop μ-loop
-sub-has-hit-2 c = omega arith
+sub-has-sought-2 : tie.Need-sub-has-sought-2 Inv-loop μ-loop
+sub-has-sought-2 c = omega arith
 
-part-has-hit-start-2 : tie.Need-part-has-hit-start-2 Inv-loop μ-loop
-part-has-hit-start-2 c = omega arith
+part-has-sought-start-2 : tie.Need-part-has-sought-start-2 Inv-loop μ-loop
+part-has-sought-start-2 c = omega arith
 
-part-has-hit-end-2 : tie.Need-part-has-hit-end-2 Inv-loop μ-loop
-part-has-hit-end-2 c =
+part-has-sought-end-2 : tie.Need-part-has-sought-end-2 Inv-loop μ-loop
+part-has-sought-end-2 c =
     let start = c .before .before .before .before .before in
     omega (arith, start .pre .2 .fits (c .before .before .loop .at) (c .before .before .loop .inv .1))
 
-has-hit-requires : tie.Need-has-hit-requires Inv-loop μ-loop
-has-hit-requires c κs =
+has-sought-requires : tie.Need-has-sought-requires Inv-loop μ-loop
+has-sought-requires c κs =
     let start = c .before .before .before .before .before .before in
     let loop = c .before .before .before .loop in
     let a = start .args in
@@ -72,10 +72,10 @@ returns c =
     let start = c .before .before .before .before .before .before .before .before in
     let loop = c .before .before .before .before .before .loop in
     let a = start .args in
-    let end : ℕ = firstHit (a .equal) (a .period) (a .pattern .now) (a .bytes .now) in
+    let end : ℕ = firstSought (a .equal) (a .period) (a .pattern .now) (a .bytes .now) in
     let found =
     block-found (a .equal) (a .bytes .now) (start .pre .2) (loop .at) (loop .inv .1) (omega arith) (loop .inv .0)
-    (c .before .has-hit .ensures) in
+    (c .before .has-sought .ensures) in
     let inside = ltb-true end (loop .at + a .block) (sym found ∙ c .if1 .taken) in
     block-last (loop .at) (a .block) end (loop .inv .1) (loop .inv .0) inside
 
@@ -87,10 +87,10 @@ loop-again c =
     let start = c .before .before .before .before .before .before .before .before in
     let loop = c .before .before .before .before .before .loop in
     let a = start .args in
-    let end : ℕ = firstHit (a .equal) (a .period) (a .pattern .now) (a .bytes .now) in
+    let end : ℕ = firstSought (a .equal) (a .period) (a .pattern .now) (a .bytes .now) in
     let found =
     block-found (a .equal) (a .bytes .now) (start .pre .2) (loop .at) (loop .inv .1) (omega arith) (loop .inv .0)
-    (c .before .has-hit .ensures) in
+    (c .before .has-sought .ensures) in
     let beyond = ltb-false end (loop .at + a .block) (sym found ∙ c .if1 .left) in
     (beyond, add-mod-right (loop .at) (a .block) ∙ loop .inv .1, omega arith)
 
@@ -98,7 +98,7 @@ returns-2 : tie.Need-returns-2 Inv-loop μ-loop
 returns-2 c =
     let a = c .before .before .before .before .args in
     let loop = c .before .loop in
-    let end : ℕ = firstHit (a .equal) (a .period) (a .pattern .now) (a .bytes .now) in
+    let end : ℕ = firstSought (a .equal) (a .period) (a .pattern .now) (a .bytes .now) in
     let within = hit-le (a .equal) (a .period) (a .pattern .now) (a .bytes .now) in
     block-last (loop .at) (a .block) end (loop .inv .1) (loop .inv .0) (omega (arith, within))
 
@@ -112,14 +112,14 @@ skip-spec =
     loop-holds
     add-next
     rem-place
-    sub-has-hit
-    part-has-hit-start
-    part-has-hit-end
-    add-has-hit
-    sub-has-hit-2
-    part-has-hit-start-2
-    part-has-hit-end-2
-    has-hit-requires
+    sub-has-sought
+    part-has-sought-start
+    part-has-sought-end
+    add-has-sought
+    sub-has-sought-2
+    part-has-sought-start-2
+    part-has-sought-end-2
+    has-sought-requires
     returns
     loop-less
     loop-again

@@ -1,4 +1,4 @@
--- `has_hit` meets its contract. The loop's invariant: it says whether the first hit was passed.
+-- `has_sought` meets its contract. The loop's invariant: it says whether the first hit was passed.
 use Prim.Native.Nat.{zero-le, _-_, _≤_}
 use mathlib.Core.Path.{_≡_, sym}
 use native.Mathlib.Omega.{arith}
@@ -7,13 +7,13 @@ use lib.Dec.{ltb}
 use lib.ListN.{length}
 use Rattle.search.specs.First.{first}
 use Rattle.search.proofs.Blocks.{first-next}
-use Rattle.span.specs.Pattern.{isHit}
-use Rattle.span.proofs.has_hit.Statement.{statement}
-use Rattle.span.proofs.has_hit.Tie as tie
+use Rattle.span.specs.Pattern.{isSought}
+use Rattle.span.proofs.has_sought.Statement.{statement}
+use Rattle.span.proofs.has_sought.Tie as tie
 
 abbrev Inv-loop : tie.InvT-loop
 Inv-loop block pattern equal found₀ i₀ found i =
-    (i ≤ length block) × (found ≡ ltb (first (isHit equal pattern block) 0 (length block)) i)
+    (i ≤ length block) × (found ≡ ltb (first (isSought equal pattern block) 0 (length block)) i)
 
 abbrev μ-loop : tie.MeasureT-loop
 μ-loop block pattern equal found₀ i₀ found i = length block - i
@@ -21,7 +21,7 @@ abbrev μ-loop : tie.MeasureT-loop
 loop-holds : tie.Need-loop-holds Inv-loop μ-loop
 loop-holds c =
     let a = c .args in
-    let test = isHit (a .equal) (a .pattern .now) (a .block .now) in
+    let test = isSought (a .equal) (a .pattern .now) (a .block .now) in
     (omega arith, sym (le-ltb (first test 0 (length (a .block .now))) 0 zero-le))
 
 shared-slice-read-found : tie.Need-shared-slice-read-found Inv-loop μ-loop
@@ -40,7 +40,7 @@ loop-again : tie.Need-loop-again Inv-loop μ-loop
 loop-again c =
     let a = c .before .before .before .before .args in
     let loop = c .before .before .before .loop in
-    let test = isHit (a .equal) (a .pattern .now) (a .block .now) in
+    let test = isSought (a .equal) (a .pattern .now) (a .block .now) in
     (omega arith, rw (loop .inv .1) (first-next test (length (a .block .now)) (loop .i) (omega arith)))
 
 returns : tie.Need-returns Inv-loop μ-loop
@@ -48,8 +48,8 @@ returns c =
     let all : c .before .loop .i ≡ length (c .before .before .args .block .now) = omega arith in
     rw all at (c .before .loop .inv .1)
 
-pub has-hit-spec : {M : Type 1} → statement M
-has-hit-spec =
+pub has-sought-spec : {M : Type 1} → statement M
+has-sought-spec =
     tie.close
     (tie.spec
     Inv-loop
