@@ -21,10 +21,11 @@ isByte byte bytes i = eqb (getD bytes i 0) byte
 
 -- ---- both, as they are sought: a hit is equal or not
 
-abbrev pub isHit : Bool → List ℕ → List ℕ → ℕ → Bool
-isHit equal pattern bytes i = Bool·beq equal (eqb (getD bytes i 0) (getD pattern i 0))
+-- byte i of a block, held against the pattern from a place on
+abbrev pub isHit : Bool → List ℕ → ℕ → List ℕ → ℕ → ℕ → Bool
+isHit equal pattern place bytes at i = Bool·beq equal (eqb (getD bytes (at + i) 0) (getD pattern (place + i) 0))
 
--- what is held against begins anew after so many bytes
+-- byte i, held against a pattern that begins anew after so many bytes
 abbrev pub isHitOver : Bool → ℕ → List ℕ → List ℕ → ℕ → Bool
 isHitOver equal period pattern bytes i = Bool·beq equal (eqb (getD bytes i 0) (getD pattern (i % period) 0))
 
