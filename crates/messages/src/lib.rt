@@ -1,7 +1,6 @@
 // What is said of a bad line, put at a place.
 use line::Line;
 ghost use Prim.Native.Nat.{_+_, _-_, _≤_};
-ghost use mathlib.Core.Path.{_≡_};
 ghost use lib.ListN.{length};
 ghost use Rattle.messages.specs.Put.{Put};
 ghost use Rattle.messages.specs.Message.{found, said, expectedOf, messageWithin};

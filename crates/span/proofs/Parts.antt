@@ -1,14 +1,13 @@
--- A block held against the part of a pattern that lies there: its hits are those of the whole.
+-- A block held against the part of a pattern that lies there: its hits are those of the whole. What is laid out.
 use Prim.Native.Nat.{ℕ, _+_, _-_, _%_, _<_, _≤_}
 use mathlib.Core.Path.{_≡_, refl, sym, ap, fun-ext, _∙_}
 use mathlib.Core.Bool.{Bool, true, false, not, Bool·beq}
 use mathlib.Core.List.{List}
-use native.Mathlib.Nat.{add-sub-cancel-left, mod-one, mod-add-mod, mod-eq-of-lt}
+use native.Mathlib.Nat.{mod-one, mod-add-mod, mod-eq-of-lt}
 use native.Mathlib.Nat.{dvd-of-mod-eq-zero, dvd-mod-iff, dvd-sub, le-of-dvd}
 use native.Mathlib.Omega.{arith}
 use lib.Dec.{ltb, eqb}
-use lib.ListN.{length, take, drop, getD, replicate, length-drop, length-replicate, getD-replicate}
-use lib.Seq.{length-take-le, getD-take, getD-drop}
+use lib.ListN.{length, getD, replicate, length-replicate, getD-replicate}
 use Rattle.search.specs.First.{first}
 use Rattle.search.proofs.First.{first-range}
 use Rattle.search.proofs.Blocks.{first-inside}
@@ -17,37 +16,23 @@ use Rattle.span.specs.Pattern.{patternSize, isOther, isByte, isSought, i
 pub hit-le : (equal : Bool) (period : ℕ) (pattern b : List ℕ) → firstSought equal period pattern b ≤ length b
 hit-le equal period pattern b = omega (arith, first-range (isSoughtOver equal period pattern b) 0 (length b))
 
-pub part-length : (b : List ℕ) (at n : ℕ) → at + n ≤ length b → length (take (at + n - at) (drop at b)) ≡ n
-part-length b at n fits = rw (add-sub-cancel-left at n) (length-take-le n (drop at b) (rw length-drop (omega arith)))
+-- whether the first hit is in a block that none comes before
+pub block-found : (equal : Bool) {period : ℕ} {pattern : List ℕ} (b : List ℕ) {block : ℕ} → Laid pattern period block
+    → (at : ℕ) {t : Bool} → at % block ≡ 0 → at + block ≤ length b → at ≤ firstSought equal period pattern b
+    → t ≡ ltb (first (isSought equal pattern (at % period) b at) 0 block) block
+    → t ≡ ltb (firstSought equal period pattern b) (at + block)
+block-found equal {period} {pattern} b {block} laid at whole fits before seen =
+    seen
+    ∙ first-inside (isSought equal pattern place b at) (isSoughtOver equal period pattern b) at block (length b)
+    hit fits before
+  where
+    place : ℕ
+    place = at % period
 
-module _ (equal : Bool) {period : ℕ} {pattern : List ℕ} (b : List ℕ) {block : ℕ} (laid : Laid pattern period block)
-    (at : ℕ) (whole : at % block ≡ 0) where
-  abbrev place : ℕ
-  place = at % period
-
-  abbrev here : ℕ → Bool
-  here = isSought equal (take block (drop place pattern)) (take block (drop at b))
-
-  abbrev anywhere : ℕ → Bool
-  anywhere = isSoughtOver equal period pattern b
-
-  part-hit : (i : ℕ) → i < block → here i ≡ anywhere (at + i)
-  part-hit i l =
-      let turned : getD pattern (place + i) 0 ≡ getD pattern ((at + i) % period) 0 =
-      sym (laid .repeats (place + i) (omega (arith, laid .fits at whole)))
-      ∙ ap (λ (j : ℕ). getD pattern j 0) (mod-add-mod at period i) in
-      rw (getD-take block (drop at b) i 0 l, getD-drop at b i 0)
-      (rw (getD-take block (drop place pattern) i 0 l, getD-drop place pattern i 0, turned))
-
-  -- whether the first hit is in it, where none comes before it
-  pub block-found : {t : Bool} → at + block ≤ length b → at ≤ firstSought equal period pattern b
-      → (let part = take (at + block - at) (drop at b) in
-      let held = take (place + block - place) (drop place pattern) in
-      t ≡ ltb (first (isSought equal held part) 0 (length part)) (length part))
-      → t ≡ ltb (firstSought equal period pattern b) (at + block)
-  block-found fits before seen =
-      rw (part-length b at block fits, add-sub-cancel-left at block, add-sub-cancel-left place block) at seen
-      ∙ first-inside here anywhere at block (length b) part-hit fits before
+    hit : (i : ℕ) → i < block → isSought equal pattern place b at i ≡ isSoughtOver equal period pattern b (at + i)
+    hit i l =
+        let inside : place + i < length pattern = omega (arith, laid .fits at whole) in
+        rw (← (laid .repeats (place + i) inside), mod-add-mod at period i)
 
 -- ---- a pattern
 

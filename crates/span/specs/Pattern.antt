@@ -19,12 +19,13 @@ isOther pattern bytes i = not (eqb (getD bytes i 0) (getD pattern (i % patternSi
 abbrev pub isByte : ℕ → List ℕ → ℕ → Bool
 isByte byte bytes i = eqb (getD bytes i 0) byte
 
--- ---- both, as they are sought: a hit is equal or not
+-- ---- both, as they are sought: equal, or not
 
-abbrev pub isSought : Bool → List ℕ → List ℕ → ℕ → Bool
-isSought equal pattern bytes i = Bool·beq equal (eqb (getD bytes i 0) (getD pattern i 0))
+-- byte i of a block, held against the pattern from a place on
+abbrev pub isSought : Bool → List ℕ → ℕ → List ℕ → ℕ → ℕ → Bool
+isSought equal pattern place bytes at i = Bool·beq equal (eqb (getD bytes (at + i) 0) (getD pattern (place + i) 0))
 
--- what is held against begins anew after so many bytes
+-- byte i, held against a pattern that begins anew after so many bytes
 abbrev pub isSoughtOver : Bool → ℕ → List ℕ → List ℕ → ℕ → Bool
 isSoughtOver equal period pattern bytes i = Bool·beq equal (eqb (getD bytes i 0) (getD pattern (i % period) 0))
 

@@ -1,6 +1,6 @@
 // Spans: how many bytes from the first on are those of a pattern over and over, and how many are other than a byte.
 ghost use mathlib.Core.Path.{_≡_};
-ghost use Prim.Native.Nat.{_-_, _%_, _≤_};
+ghost use Prim.Native.Nat.{_+_, _-_, _%_, _≤_};
 ghost use lib.Dec.{ltb};
 ghost use lib.ListN.{length};
 ghost use Rattle.search.specs.First.{first};
@@ -18,23 +18,30 @@ const SHORT: usize = 8;
 
 // Whether a byte of a block is one sought: equal to that of the pattern, or not. The loop has no early exit, so that it
 // vectorises.
-fn has_sought(block: &[u8], pattern: &[u8], equal: bool) -> bool
-    requires { ⌜ length (now block) ≤ length (now pattern) ⌝ }
+fn has_sought(
+    bytes: &[u8],
+    at: usize,
+    pattern: &[u8],
+    place: usize,
+    equal: bool,
+    block: usize,
+) -> bool
+    requires { ⌜ (at + block ≤ length (now bytes)) × (place + block ≤ length (now pattern)) ⌝ }
     ensures { λ r.
-        let b = now (block .entry) in
-        ⌜ r ≡ ltb (first (isSought equal (now (pattern .entry)) b) 0 (length b)) (length b) ⌝ }
+        let test = isSought equal (now (pattern .entry)) place (now (bytes .entry)) at in
+        ⌜ r ≡ ltb (first test 0 block) block ⌝ }
 {
     let mut found = false;
     let mut i: usize = 0;
-    while i < block.len() {
-        found = found | (equal == (block[i] == pattern[i]));
+    while i < block {
+        found = found | (equal == (bytes[at + i] == pattern[place + i]));
         i += 1;
     }
     found
 }
 
-// Passes over whole blocks without one, from a place that none comes before. How many bytes are left is counted
-// apart: the compiler makes a shorter loop of it.
+// Passes over whole blocks without one, from a place that none comes before. The pattern begins anew after `period`
+// bytes. How many bytes are left is counted apart: the compiler makes a shorter loop of it.
 fn skip(
     bytes: &[u8],
     pattern: &[u8],
@@ -52,18 +59,16 @@ fn skip(
     let mut at = from;
     let mut left = bytes.len() - from;
     while block <= left {
-        let next = at + block;
-        let place = at % period;
-        if has_sought(&bytes[at..next], &pattern[place..place + block], equal) {
+        if has_sought(bytes, at, pattern, at % period, equal, block) {
             return at;
         }
-        at = next;
+        at += block;
         left -= block;
     }
     at
 }
 
-// The first byte that is another than the pattern's; the bytes' length where there is none.
+// How many bytes from the first on are the pattern's, over and over.
 pub fn same(bytes: &[u8], pattern: &[u8; PATTERN]) -> usize
     ensures { λ r.
         let b = now (bytes .entry) in
@@ -74,15 +79,16 @@ pub fn same(bytes: &[u8], pattern: &[u8; PATTERN]) -> usize
     skip(bytes, pattern, PATTERN, false, near, 1)
 }
 
-// The first byte that is this one; the bytes' length where there is none.
+// How many bytes from the first on are other than this one.
 pub fn other(bytes: &[u8], byte: u8) -> usize
     ensures { λ r.
         let b = now (bytes .entry) in
         ⌜ r ≡ first (isByte byte b) 0 (length b) ⌝ }
 {
-    let pattern = [byte; LONG];
-    let far = skip(bytes, &pattern, 1, true, 0, LONG);
-    let middle = skip(bytes, &pattern, 1, true, far, MIDDLE);
-    let near = skip(bytes, &pattern, 1, true, middle, SHORT);
-    skip(bytes, &pattern, 1, true, near, 1)
+    let laid = [byte; LONG];
+    let pattern: &[u8] = &laid;
+    let far = skip(bytes, pattern, 1, true, 0, LONG);
+    let middle = skip(bytes, pattern, 1, true, far, MIDDLE);
+    let near = skip(bytes, pattern, 1, true, middle, SHORT);
+    skip(bytes, pattern, 1, true, near, 1)
 }

@@ -1,5 +1,5 @@
 -- A number read at a place and stored there.
-use Prim.Native.Nat.{ℕ, zero, suc, _+_, _-_, _/_, _%_, _^_, _<_, _≤_}
+use Prim.Native.Nat.{ℕ, suc, _+_, _-_, _/_, _%_, _^_, _<_, _≤_}
 use mathlib.Core.Path.{_≡_, refl, sym, ap, _∙_}
 use mathlib.Core.Bool.{Bool, true, false, cond}
 use mathlib.Core.List.{List, _++_, append-assoc}
@@ -21,14 +21,6 @@ word-bytes n h =
     let three : n / 16777216 ≡ n / 65536 / 256 = sym (div-div-eq-div-mul n 65536 256) in
     let top : n / 16777216 % 256 ≡ n / 16777216 = mod-eq-of-lt (omega arith) in
     omega (arith, div-add-mod' n 256, div-add-mod' (n / 256) 256, div-add-mod' (n / 65536) 256)
-
--- and of bytes, the first four are those of their number
-pub bytes-word : (b : List ℕ) → ((i : ℕ) → i < 4 → getD b i 0 < 256) → (i : ℕ) → i < 4 → getD (bytesOf (wordOf b)) i 0 ≡ getD b i 0
-bytes-word b small zero h = omega (arith, small 0 (omega arith))
-bytes-word b small (suc zero) h = omega (arith, small 0 (omega arith), small 1 h)
-bytes-word b small (suc (suc zero)) h = omega (arith, small 0 (omega arith), small 1 (omega arith), small 2 h)
-bytes-word b small (suc (suc (suc zero))) h = omega (arith, small 0 (omega arith), small 1 (omega arith), small 2 (omega arith), small 3 h)
-bytes-word b small (suc (suc (suc (suc i)))) h = absurd (omega arith)
 
 -- a place's number is that of its four bytes
 word-front : (b : List ℕ) → wordOf (take 4 b) ≡ wordOf b

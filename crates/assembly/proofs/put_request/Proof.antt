@@ -5,7 +5,7 @@ use native.Mathlib.Omega.{arith}
 use borrow.Author.Needs.{needs}
 use borrow.Rule.Slice.PartMut.{midOf}
 use lib.ListN.{length, length-take, length-drop}
-use Rattle.request.specs.Parse.{requestSize, requestBytes}
+use Rattle.request.specs.Parse.{requestSize}
 use Rattle.line.specs.Line.{requestOf}
 use Rattle.writing.proofs.Writing.{text-put}
 use Rattle.messages.proofs.Putting.{nothing-put}

@@ -1,7 +1,6 @@
 -- `repeat` meets its contract: what is in the block is the front.
 use borrow.Author.Needs.{needs}
 use lib.ListN.{replicate}
-use native.Mathlib.Omega.{arith}
 use Rattle.canary.proofs.Filling.{repeated}
 use Rattle.canary.proofs.repeat.Statement.{statement}
 use Rattle.canary.proofs.repeat.Tie as tie

@@ -7,7 +7,7 @@ use borrow.Author.Tests.{ltb-true, ltb-false}
 use lib.ListN.{length}
 use Rattle.search.proofs.Blocks.{block-last}
 use Rattle.span.specs.Pattern.{firstSought}
-use Rattle.span.proofs.Parts.{hit-le, part-length, block-found}
+use Rattle.span.proofs.Parts.{hit-le, block-found}
 use Rattle.span.proofs.skip.Statement.{statement}
 use Rattle.span.proofs.skip.Tie as tie
 
@@ -26,51 +26,18 @@ sub-left c =
 loop-holds : tie.Need-loop-holds Inv-loop μ-loop
 loop-holds c = (c .before .before .pre .0, c .before .before .pre .1, omega (arith, sub-left c))
 
-add-next : tie.Need-add-next Inv-loop μ-loop
-add-next c = omega arith
-
-rem-place : tie.Need-rem-place Inv-loop μ-loop
-rem-place c = omega arith
-
-sub-has-sought : tie.Need-sub-has-sought Inv-loop μ-loop
-sub-has-sought c = omega arith
-
-part-has-sought-start : tie.Need-part-has-sought-start Inv-loop μ-loop
-part-has-sought-start c = omega arith
-
-part-has-sought-end : tie.Need-part-has-sought-end Inv-loop μ-loop
-part-has-sought-end c = omega arith
-
-add-has-sought : tie.Need-add-has-sought Inv-loop μ-loop
-add-has-sought c =
-    let start = c .before .before .before .before .before in
-    omega (arith, start .pre .2 .fits (c .before .before .loop .at) (c .before .before .loop .inv .1))
-
-sub-has-sought-2 : tie.Need-sub-has-sought-2 Inv-loop μ-loop
-sub-has-sought-2 c = omega arith
-
-part-has-sought-start-2 : tie.Need-part-has-sought-start-2 Inv-loop μ-loop
-part-has-sought-start-2 c = omega arith
-
-part-has-sought-end-2 : tie.Need-part-has-sought-end-2 Inv-loop μ-loop
-part-has-sought-end-2 c =
-    let start = c .before .before .before .before .before in
-    omega (arith, start .pre .2 .fits (c .before .before .loop .at) (c .before .before .loop .inv .1))
+rem-has-sought : tie.Need-rem-has-sought Inv-loop μ-loop
+rem-has-sought c = omega arith
 
 has-sought-requires : tie.Need-has-sought-requires Inv-loop μ-loop
 has-sought-requires c κs =
-    let start = c .before .before .before .before .before .before in
-    let loop = c .before .before .before .loop in
-    let a = start .args in
-    let size = part-length (a .bytes .now) (loop .at) (a .block) (omega arith) in
-    let fits = start .pre .2 .fits (loop .at) (loop .inv .1) in
-    let same = part-length (a .pattern .now) (loop .at % a .period) (a .block) fits in
-    omega (arith, size, same)
+    let laid = c .before .before .before .before .pre .2 in
+    (omega arith, laid .fits (c .before .loop .at) (c .before .loop .inv .1))
 
 returns : tie.Need-returns Inv-loop μ-loop
 returns c =
-    let start = c .before .before .before .before .before .before .before .before in
-    let loop = c .before .before .before .before .before .loop in
+    let start = c .before .before .before .before .before .before in
+    let loop = c .before .before .before .loop in
     let a = start .args in
     let end : ℕ = firstSought (a .equal) (a .period) (a .pattern .now) (a .bytes .now) in
     let found =
@@ -79,13 +46,16 @@ returns c =
     let inside = ltb-true end (loop .at + a .block) (sym found ∙ c .if1 .taken) in
     block-last (loop .at) (a .block) end (loop .inv .1) (loop .inv .0) inside
 
+add-at : tie.Need-add-at Inv-loop μ-loop
+add-at c = omega arith
+
 loop-less : tie.Need-loop-less Inv-loop μ-loop
 loop-less c = omega arith
 
 loop-again : tie.Need-loop-again Inv-loop μ-loop
 loop-again c =
-    let start = c .before .before .before .before .before .before .before .before in
-    let loop = c .before .before .before .before .before .loop in
+    let start = c .before .before .before .before .before .before in
+    let loop = c .before .before .before .loop in
     let a = start .args in
     let end : ℕ = firstSought (a .equal) (a .period) (a .pattern .now) (a .bytes .now) in
     let found =
@@ -110,17 +80,10 @@ skip-spec =
     μ-loop
     sub-left
     loop-holds
-    add-next
-    rem-place
-    sub-has-sought
-    part-has-sought-start
-    part-has-sought-end
-    add-has-sought
-    sub-has-sought-2
-    part-has-sought-start-2
-    part-has-sought-end-2
+    rem-has-sought
     has-sought-requires
     returns
+    add-at
     loop-less
     loop-again
     returns-2)

@@ -1,5 +1,5 @@
 -- `groups` meets its contract. The loop's invariant: the replicas before this one are in their groups.
-use Prim.Native.Nat.{_-_, _≤_}
+use Prim.Native.Nat.{_-_}
 use native.Mathlib.Omega.{arith}
 use Rattle.vote.specs.Decide.{blockIn}
 use Rattle.vote.specs.Groups.{rowOf, groupOf}
