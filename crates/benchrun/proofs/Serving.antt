@@ -12,8 +12,8 @@ use Rattle.request.specs.Parse.{requestSize}
 use Rattle.rules.specs.Serve.{lent}
 use Rattle.rules.specs.Call.{State, stateAfter}
 use Rattle.replay.specs.Batch.{replay, requests, batchOf}
-use Rattle.replay.specs.Pieces.{ready, rest, replayAll}
-use Rattle.replay.proofs.Cutting.{batch-all}
+use Rattle.pieces.specs.Pieces.{ready, rest, replayAll}
+use Rattle.pieces.proofs.Cutting.{batch-all}
 use Rattle.benchrun.specs.Replay.{inputRoom, mostRequests, Room}
 
 -- k requests have k numbers

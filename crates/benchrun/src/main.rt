@@ -17,7 +17,7 @@ ghost use Rattle.request.specs.Parse.{requestSize};
 ghost use Rattle.rules.specs.Call.{stateOf};
 ghost use Rattle.replay.specs.Batch.{Batch};
 ghost use Rattle.replay.specs.Opened.{openedState};
-ghost use Rattle.replay.specs.Pieces.{ready, rest, replayAll};
+ghost use Rattle.pieces.specs.Pieces.{ready, rest, replayAll};
 ghost use Rattle.benchrun.specs.Replay.{heapBytes, metadataBytes, given, firstNumber, mostRequests, Room};
 
 // The bytes of the heap and of its metadata.
@@ -87,7 +87,7 @@ fn serve(
 {
     let end = kept + got.count;
     let ended = got.ended();
-    let served = replay::gather::serve(heap, metadata, &mut input[0..end], ended, number, out);
+    let served = pieces::serve(heap, metadata, &mut input[0..end], ended, number, out);
     Turn {
         written: served.written,
         kept: served.kept,

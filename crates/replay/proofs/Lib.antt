@@ -1,3 +1,2 @@
--- Laws of requests served one after another, and the theorem that no cut of an input changes the answers.
+-- Laws of requests served one after another.
 pub mod Replayed
-pub mod Cutting

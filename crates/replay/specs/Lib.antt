@@ -1,4 +1,3 @@
 pub mod Line
 pub mod Batch
-pub mod Pieces
 pub mod Opened

@@ -1,6 +1,4 @@
 // Replaying requests: each is served and answered by a line of text.
-pub mod gather;
-
 ghost use mathlib.Core.Path.{_≡_};
 ghost use Prim.Native.Nat.{suc, _+_, _-_, _*_, _^_, _<_, _≤_, min};
 ghost use lib.ListN.{length};

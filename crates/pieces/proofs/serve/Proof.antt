@@ -9,8 +9,8 @@ use lib.ListN.{length, take, drop, length-drop}
 use lib.Seq.{take-all}
 use Rattle.writing.specs.Overwrite.{overwrite}
 use Rattle.request.specs.Parse.{requestSize}
-use Rattle.replay.proofs.gather.serve.Statement.{statement}
-use Rattle.replay.proofs.gather.serve.Tie as tie
+use Rattle.pieces.proofs.serve.Statement.{statement}
+use Rattle.pieces.proofs.serve.Tie as tie
 
 -- fewer bytes than a request has are moved whole
 all-moved : (xs : List ℕ) (from : ℕ) {r : ℕ} {after : List ℕ} → length xs < from + requestSize

@@ -7,9 +7,11 @@ ghost use lib.ListN.{length};
 ghost use Rattle.writing.specs.Overwrite.{overwrite};
 ghost use Rattle.request.specs.Parse.{requestSize};
 ghost use Rattle.rules.specs.Call.{State, stateOf};
 ghost use Rattle.replay.specs.Batch.{Batch, batchOf};
-ghost use Rattle.replay.specs.Pieces.{readyLength, ready, rest};
-use crate::REQUEST;
+ghost use Rattle.pieces.specs.Pieces.{readyLength, ready, rest};
+
+// The bytes of a request.
+const REQUEST: usize = request::SIZE;
 
 // How many bytes of lines are written, the number of the line after them, and how many bytes are kept.
 pub struct Served {
@@ -27,8 +29,8 @@ fn ready_len(len: usize, ended: bool) -> usize
     len / REQUEST * REQUEST
 }
 
-// Serves as `batch` does with an empty source the whole requests of the bytes gathered, or all of them where the input
-// has ended, and moves the rest to the front.
+// Serves as `replay::batch` does with an empty source the whole requests of the bytes gathered, or all of them where
+// the input has ended, and moves the rest to the front.
 pub fn serve(
     heap: &mut [u8],
     metadata: &mut [u8],
@@ -48,7 +50,7 @@ pub fn serve(
     ensures { λ r. ⌜ (r .written ≤ length (now (out .exit))) × (r .kept < requestSize) ⌝ }
 {
     let end = ready_len(input.len(), ended);
-    let done = crate::batch(heap, metadata, &input[0..end], b"", number, out);
+    let done = replay::batch(heap, metadata, &input[0..end], b"", number, out);
     let kept = writing::shift(input, end, REQUEST);
     Served {
         written: done.written,

@@ -11,10 +11,10 @@ use Rattle.writing.proofs.Parts.{no-bytes}
 use Rattle.request.specs.Parse.{requestSize}
 use Rattle.rules.specs.Serve.{lent}
 use Rattle.rules.specs.Call.{State, stateAfter}
 use Rattle.replay.specs.Line.{lineRoom, lineFor}
 use Rattle.replay.specs.Batch.{Batch, behind, replay, requests, batchOf}
-use Rattle.replay.specs.Pieces.{ready, rest, replayAll, replayIn}
+use Rattle.pieces.specs.Pieces.{ready, rest, replayAll, replayIn}
 use Rattle.replay.proofs.Replayed.{accepted-all, behind-both}
 
 -- k whole requests, and j after them
 module _ (b : List ℕ) (j : ℕ) where

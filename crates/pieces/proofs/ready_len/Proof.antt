@@ -1,8 +1,8 @@
 -- `ready_len` counts the bytes of whole requests, or all where the input has ended.
 use borrow.Author.Needs.{needs}
 use native.Mathlib.Omega.{arith}
-use Rattle.replay.proofs.gather.ready_len.Statement.{statement}
-use Rattle.replay.proofs.gather.ready_len.Tie as tie
+use Rattle.pieces.proofs.ready_len.Statement.{statement}
+use Rattle.pieces.proofs.ready_len.Tie as tie
 
 returns : tie.Need-returns
 returns c = search needs
