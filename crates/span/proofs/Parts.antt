@@ -1,4 +1,4 @@
--- A block held against the part of a pattern that lies there: its hits are those of the whole. What is laid out.
+-- A block held against the part of a pattern that lies there: what is sought in it is sought in the whole.
 use Prim.Native.Nat.{ℕ, _+_, _-_, _%_, _<_, _≤_}
 use mathlib.Core.Path.{_≡_, refl, sym, ap, fun-ext, _∙_}
 use mathlib.Core.Bool.{Bool, true, false, not, Bool·beq}
@@ -13,10 +13,10 @@ use Rattle.search.proofs.First.{first-range}
 use Rattle.search.proofs.Blocks.{first-inside}
 use Rattle.span.specs.Pattern.{patternSize, isOther, isByte, isSought, isSoughtOver, firstSought, Laid}
 
-pub hit-le : (equal : Bool) (period : ℕ) (pattern b : List ℕ) → firstSought equal period pattern b ≤ length b
-hit-le equal period pattern b = omega (arith, first-range (isSoughtOver equal period pattern b) 0 (length b))
+pub sought-le : (equal : Bool) (period : ℕ) (pattern b : List ℕ) → firstSought equal period pattern b ≤ length b
+sought-le equal period pattern b = omega (arith, first-range (isSoughtOver equal period pattern b) 0 (length b))
 
--- whether the first hit is in a block that none comes before
+-- whether the first byte sought is in a block that none comes before
 pub block-found : (equal : Bool) {period : ℕ} {pattern : List ℕ} (b : List ℕ) {block : ℕ} → Laid pattern period block
     → (at : ℕ) {t : Bool} → at % block ≡ 0 → at + block ≤ length b → at ≤ firstSought equal period pattern b
     → t ≡ ltb (first (isSought equal pattern (at % period) b at) 0 block) block
@@ -24,13 +24,13 @@ pub block-found : (equal : Bool) {period : ℕ} {pattern : List ℕ} (b : List �
 block-found equal {period} {pattern} b {block} laid at whole fits before seen =
     seen
     ∙ first-inside (isSought equal pattern place b at) (isSoughtOver equal period pattern b) at block (length b)
-    hit fits before
+    sought fits before
   where
     place : ℕ
     place = at % period
 
-    hit : (i : ℕ) → i < block → isSought equal pattern place b at i ≡ isSoughtOver equal period pattern b (at + i)
-    hit i l =
+    sought : (i : ℕ) → i < block → isSought equal pattern place b at i ≡ isSoughtOver equal period pattern b (at + i)
+    sought i l =
         let inside : place + i < length pattern = omega (arith, laid .fits at whole) in
         rw (← (laid .repeats (place + i) inside), mod-add-mod at period i)
 

@@ -19,7 +19,7 @@ isOther pattern bytes i = not (eqb (getD bytes i 0) (getD pattern (i % patternSi
 abbrev pub isByte : ℕ → List ℕ → ℕ → Bool
 isByte byte bytes i = eqb (getD bytes i 0) byte
 
--- ---- both, as they are sought: equal, or not
+-- ---- both, as they are sought: equal or not
 
 -- byte i of a block, held against the pattern from a place on
 abbrev pub isSought : Bool → List ℕ → ℕ → List ℕ → ℕ → ℕ → Bool

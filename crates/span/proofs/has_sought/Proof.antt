@@ -1,4 +1,4 @@
--- `has_sought` meets its contract. The loop's invariant: it says whether the first hit was passed.
+-- `has_sought` meets its contract. The loop's invariant: it says whether the first byte sought was passed.
 use Prim.Native.Nat.{zero-le, _-_, _≤_}
 use mathlib.Core.Path.{_≡_, sym}
 use native.Mathlib.Omega.{arith}

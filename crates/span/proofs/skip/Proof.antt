@@ -1,4 +1,4 @@
--- `skip` meets its contract. The loop's invariant: no hit comes before `at`, and whole blocks do.
+-- `skip` meets its contract. The loop's invariant: no byte sought comes before `at`, and whole blocks do.
 use Prim.Native.Nat.{ℕ, _+_, _%_, _≤_}
 use mathlib.Core.Path.{_≡_, sym, _∙_}
 use native.Mathlib.Nat.{add-mod-right}
@@ -7,7 +7,7 @@ use borrow.Author.Tests.{ltb-true, ltb-false}
 use lib.ListN.{length}
 use Rattle.search.proofs.Blocks.{block-last}
 use Rattle.span.specs.Pattern.{firstSought}
-use Rattle.span.proofs.Parts.{hit-le, block-found}
+use Rattle.span.proofs.Parts.{sought-le, block-found}
 use Rattle.span.proofs.skip.Statement.{statement}
 use Rattle.span.proofs.skip.Tie as tie
 
@@ -21,7 +21,7 @@ abbrev μ-loop : tie.MeasureT-loop
 sub-left : tie.Need-sub-left Inv-loop μ-loop
 sub-left c =
     let a = c .before .before .args in
-    omega (arith, hit-le (a .equal) (a .period) (a .pattern .now) (a .bytes .now))
+    omega (arith, sought-le (a .equal) (a .period) (a .pattern .now) (a .bytes .now))
 
 loop-holds : tie.Need-loop-holds Inv-loop μ-loop
 loop-holds c = (c .before .before .pre .0, c .before .before .pre .1, omega (arith, sub-left c))
@@ -69,7 +69,7 @@ returns-2 c =
     let a = c .before .before .before .before .args in
     let loop = c .before .loop in
     let end : ℕ = firstSought (a .equal) (a .period) (a .pattern .now) (a .bytes .now) in
-    let within = hit-le (a .equal) (a .period) (a .pattern .now) (a .bytes .now) in
+    let within = sought-le (a .equal) (a .period) (a .pattern .now) (a .bytes .now) in
     block-last (loop .at) (a .block) end (loop .inv .1) (loop .inv .0) (omega (arith, within))
 
 pub skip-spec : {M : Type 1} → statement M
