@@ -4,11 +4,11 @@ mod elect;
 
 use answer::Refusal;
 ghost use mathlib.Core.Path.{_≡_};
-ghost use Prim.Native.Nat.{_≤_};
+ghost use Prim.Native.Nat.{_≤_, _<_};
 ghost use lib.ListN.{length};
-ghost use Rattle.vote.specs.Decide.{most, firstOf, blockIn, invalid, count, sideBySide, decide};
+ghost use Rattle.vote.specs.Decide.{most, firstOf, invalid, sideBySide, decide};
 ghost use Rattle.vote.specs.Decide.{tally, tallyOf, outputAfter, NamesWinner};
-ghost use Rattle.vote.specs.Groups.{rowOf, Placed};
+ghost use Rattle.vote.specs.Groups.{rowOf, tallied};
 
 const FEWEST_REPLICAS: usize = 3;
 
@@ -80,19 +80,13 @@ fn side_by_side(replicas: usize, block_len: usize) -> Places
     }
 }
 
-// The block of the winner goes to the front of `output`, if two or more share it.
-fn count(outputs: &[u8], voting: u32, p: Places, output: &mut [u8]) -> Verdict
-    requires { ⌜ Placed (rowOf voting) (now outputs) p × (p .len ≤ length (now output)) ⌝ }
-    ensures { λ r.
-        let d = count (rowOf voting) (blockIn (now (outputs .entry)) p) in
-        ⌜ (tallyOf r ≡ tally d (tallyOf r .replica)) × (now (output .exit) ≡ outputAfter d (now (output .entry))) ⌝ }
-    ensures { λ r. ⌜ NamesWinner (tallyOf r) ⌝ }
+fn answer(winner: Elected) -> Verdict
+    requires { ⌜ winner .replica < most ⌝ }
+    ensures { λ r. ⌜ tallyOf r ≡ tallied winner ⌝ }
 {
-    let winner = elect::elect(outputs, voting, p);
     if winner.count < 2 {
         return Verdict::Refused(Refusal::NoAgreement);
     }
-    writing::write(output, compare::block(outputs, p, winner.replica));
     Verdict::Agreed {
         mask: winner.mask,
         count: winner.count,
@@ -111,10 +105,10 @@ pub fn vote(blocks: &[u8], replicas: usize, block_len: usize, output: &mut [u8])
     if is_invalid(blocks.len(), replicas, block_len, output.len()) {
         return Verdict::Refused(Refusal::InvalidVote);
     }
-    count(
+    answer(elect::elect(
         blocks,
         first(replicas),
         side_by_side(replicas, block_len),
         output,
-    )
+    ))
 }
