@@ -117,7 +117,7 @@ count-put outputs output p r h =
 -- ---- a vote that is allowed
 
 -- a disjunction is false where both sides are
-neither : (a b : Bool) → (a || b ≡ false) ↔ ((a ≡ false) × (b ≡ false))
+pub neither : (a b : Bool) → (a || b ≡ false) ↔ ((a ≡ false) × (b ≡ false))
 neither true b = (λ e. absurd (true≢false e), λ e. e .0)
 neither false b = (λ e. (refl, e), λ e. e .1)
 

@@ -42,22 +42,14 @@ pub enum Verdict {
 fn is_invalid(blocks_len: usize, replicas: usize, block_len: usize, output_len: usize) -> bool
     ensures { λ r. ⌜ r ≡ invalid «blocks_len» replicas «block_len» «output_len» ⌝ }
 {
-    if replicas < FEWEST_REPLICAS {
+    if (replicas < FEWEST_REPLICAS)
+        | (MOST_REPLICAS < replicas)
+        | (block_len < 1)
+        | (LONGEST_BLOCK < block_len)
+    {
         return true;
     }
-    if MOST_REPLICAS < replicas {
-        return true;
-    }
-    if block_len < 1 {
-        return true;
-    }
-    if LONGEST_BLOCK < block_len {
-        return true;
-    }
-    if blocks_len != replicas * block_len {
-        return true;
-    }
-    output_len < block_len
+    (blocks_len != replicas * block_len) | (output_len < block_len)
 }
 
 // The first k replicas, a bit each.
