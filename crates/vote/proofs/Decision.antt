@@ -1,5 +1,5 @@
 -- A vote's decision from what the code finds.
-use Prim.Native.Nat.{ℕ, _+_, _*_, _/_, _%_, _^_, _≤_, _<_}
+use Prim.Native.Nat.{ℕ, _+_, _*_, _≤_, _<_}
 use native.Mathlib.Nat.{suc-mul, mul-le-mul-right}
 use native.Mathlib.Decide.{decLt}
 use native.Mathlib.Omega.{arith}
@@ -10,16 +10,16 @@ use mathlib.Core.List.{List, [], _++_}
 use lib.ListN.{length, getD, take, drop, length-take, length-drop, List·getD-eq-default}
 use lib.Seq.{take-all}
 use lib.Dec.{ltb}
-use borrow.Author.Tests.{lt-ltb, le-ltb, ltb-false, eqb-true, not-false}
+use borrow.Author.Tests.{lt-ltb, le-ltb, ltb-true, ltb-false, eqb-true, not-false}
 use Rattle.answer.specs.declared.Refusal.the-variants.{NoAgreement}
 use Rattle.search.specs.Tabulate.{tabulate}
 use Rattle.search.proofs.Tabulate.{tabulate-at, tabulate-length}
 use Rattle.writing.specs.Overwrite.{overwrite}
 use Rattle.vote.specs.declared.Places.{Places}
 use Rattle.vote.specs.declared.Elected.{Elected}
-use Rattle.vote.specs.Groups.{Placed, Countable, electedOf}
+use Rattle.vote.specs.Groups.{Placed, Countable, electedOf, tallied}
 use Rattle.vote.specs.Decide.{firstOf, blockIn, agree, row, agreements, votes, maskOf}
-use Rattle.vote.specs.Decide.{invalid, won, lost, count, sideBySide}
+use Rattle.vote.specs.Decide.{invalid, won, lost, count, sideBySide, tally, NamesWinner}
 use Rattle.vote.proofs.Comparing.{out-agrees, agrees-out, agree-self}
 use Rattle.vote.proofs.Winner.{digits-none, mask-bit}
 
@@ -67,29 +67,44 @@ module _ (voting : List Bool) (block : ℕ → List ℕ) {w : Elected} (e : w �
   count-lost h = rw (lt-ltb _ 2 (rw e at h), count)
 
   -- with more its block wins
-  pub count-won : 2 ≤ w .count
-      → (count voting block ≡ won winners (block (w .replica)))
-      × (w .count ≡ votes winners)
-      × (w .mask ≡ maskOf winners)
+  pub count-won : 2 ≤ w .count → count voting block ≡ won winners (block (w .replica))
   unfolding count
-  count-won h = rw e (rw (le-ltb _ 2 (rw e at h), count), refl, refl)
+  count-won h = rw e (rw (le-ltb _ 2 (rw e at h), count))
+
+  -- the answer is the one that names it
+  pub count-tally : tallied w ≡ tally (count voting block) (tallied w .replica)
+  count-tally = go (ltb (w .count) 2) refl
+    where
+      go : (t : Bool) → ltb (w .count) 2 ≡ t → tallied w ≡ tally (count voting block) (tallied w .replica)
+      go true q = rw (q, count-lost (ltb-true _ _ q))
+      go false q =
+          let has : (w .count ≡ votes winners) × (w .mask ≡ maskOf winners) = rw e (refl, refl) in
+          rw (q, count-won (ltb-false _ _ q), has .0, has .1)
 
   -- it votes, and agrees with itself: its bit is set in the mask
-  pub count-named : 2 ≤ w .count → w .replica < 16 → maskOf winners / 2 ^ w .replica % 2 ≡ 1
-  count-named h few =
-      rw (
-        mask-bit,
-        row-at voting block (w .replica) few,
-        tabulate-at (agree voting block (w .replica)) false 16 (w .replica) few,
-        agree-self voting block (w .replica),
-      )
-      (go (getD voting (w .replica) false) refl)
+  pub count-named : w .replica < 16 → NamesWinner (tallied w)
+  count-named few = go (ltb (w .count) 2) refl
     where
-      go : (t : Bool) → getD voting (w .replica) false ≡ t → _≡_ {A = ℕ} (cond t 1 0) 1
-      go true p = refl
-      go false p =
+      named : (t : Bool) → getD voting (w .replica) false ≡ t → 2 ≤ votes winners → _≡_ {A = ℕ} (cond t 1 0) 1
+      named true p h = refl
+      named false p h =
           let none : votes winners ≡ 0 = digits-none 1 winners (row-out voting block (w .replica) few p) in
-          absurd (omega (arith, count-won h .1))
+          absurd (omega arith)
+
+      go : (t : Bool) → ltb (w .count) 2 ≡ t → NamesWinner (tallied w)
+      go true q = rw q (λ z. omega arith)
+      go false q =
+          let has : (w .count ≡ votes winners) × (w .mask ≡ maskOf winners) = rw e (refl, refl) in
+          let more : 2 ≤ votes winners = rw (has .0) at (ltb-false (w .count) 2 q) in
+          rw (
+            q,
+            has .1,
+            mask-bit,
+            row-at voting block (w .replica) few,
+            tabulate-at (agree voting block (w .replica)) false 16 (w .replica) few,
+            agree-self voting block (w .replica),
+          )
+          (λ z. named (getD voting (w .replica) false) refl more)
 
 -- its block is put to the front of an output
 pub count-put : (outputs output : List ℕ) (p : Places) (r : ℕ) → p .len ≤ length output
@@ -102,7 +117,7 @@ count-put outputs output p r h =
 -- ---- a vote that is allowed
 
 -- a disjunction is false where both sides are
-neither : (a b : Bool) → (a || b ≡ false) ↔ ((a ≡ false) × (b ≡ false))
+pub neither : (a b : Bool) → (a || b ≡ false) ↔ ((a ≡ false) × (b ≡ false))
 neither true b = (λ e. absurd (true≢false e), λ e. e .0)
 neither false b = (λ e. (refl, e), λ e. e .1)
 

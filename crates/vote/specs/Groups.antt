@@ -1,15 +1,17 @@
 -- How comparing and counting go about their work. What the vote promises rests on `Decide` alone.
 use Prim.Native.Nat.{ℕ, _+_, _*_, _/_, _%_, _^_, _≤_, _<_}
 use mathlib.Core.Path.{_≡_}
-use mathlib.Core.Bool.{Bool, false, _&&_}
+use mathlib.Core.Bool.{Bool, false, cond, _&&_}
 use mathlib.Core.List.{List, []}
 use lib.ListN.{length, getD}
-use lib.Dec.{eqb}
+use lib.Dec.{ltb, eqb}
 use Rattle.search.specs.First.{first}
 use Rattle.search.specs.Tabulate.{tabulate}
+use Rattle.answer.specs.declared.Refusal.the-variants.{NoAgreement}
+use Rattle.answer.specs.Reply.{numberOf}
 use Rattle.vote.specs.declared.Places.{Places}
 use Rattle.vote.specs.declared.Elected.{Elected}
-use Rattle.vote.specs.Decide.{most, agree, votes, maskOf, leader}
+use Rattle.vote.specs.Decide.{most, agree, votes, maskOf, leader, Tally}
 
 -- those whose bits are set in a mask, as a row of all sixteen
 abbrev pub rowOf : ℕ → List Bool
@@ -46,3 +48,10 @@ electedOf table =
     let best : ℕ = leader table most in
     let row : List Bool = getD table best [] in
     record { replica = best; count = votes row; mask = maskOf row }
+
+-- the answer that names the leader, where two or more agree
+abbrev pub tallied : Elected → Tally
+tallied w =
+    cond (ltb (w .count) 2)
+    (record { number = numberOf NoAgreement; mask = 0; value = 0; replica = 0 })
+    (record { number = 0; mask = w .mask; value = w .count; replica = w .replica })

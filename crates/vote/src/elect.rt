@@ -5,8 +5,8 @@ use crate::compare;
 ghost use mathlib.Core.Path.{_≡_};
 ghost use Prim.Native.Nat.{ℕ, _≤_, _<_};
 ghost use mathlib.Core.Bool.{false};
-ghost use lib.ListN.{getD};
-ghost use Rattle.vote.specs.Decide.{blockIn, agreements, digits};
+ghost use lib.ListN.{length, getD};
+ghost use Rattle.vote.specs.Decide.{blockIn, agreements, digits, count, outputAfter};
 ghost use Rattle.vote.specs.Groups.{rowOf, Placed, Countable, electedOf};
 
 // A row as digits in base 1, which counts its replicas, or in base 2, which is their mask. It has none past the first n.
@@ -46,12 +46,19 @@ fn winner(table: [[bool; 16]; 16], replicas: usize) -> Elected
     }
 }
 
-// The winner among those who vote, a bit each, and for what.
-pub fn elect(outputs: &[u8], voting: u32, p: Places) -> Elected
-    requires { ⌜ Placed (rowOf voting) (now outputs) p ⌝ }
+// The winner among those who vote, a bit each. If two or more share its block, this goes to the front of `output`.
+pub fn elect(outputs: &[u8], voting: u32, p: Places, output: &mut [u8]) -> Elected
+    requires { ⌜ Placed (rowOf voting) (now outputs) p × (p .len ≤ length (now output)) ⌝ }
     ensures { λ r.
-        let table = agreements (rowOf voting) (blockIn (now (outputs .entry)) p) in
-        ⌜ (r ≡ electedOf table) × (r .replica < p .replicas) ⌝ }
+        let block = blockIn (now (outputs .entry)) p in
+        ⌜ (r ≡ electedOf (agreements (rowOf voting) block))
+        × (r .replica < p .replicas)
+        × (now (output .exit) ≡ outputAfter (count (rowOf voting) block) (now (output .entry))) ⌝ }
 {
-    winner(compare::agreements(outputs, voting, p), p.replicas)
+    let winner = winner(compare::agreements(outputs, voting, p), p.replicas);
+    if winner.count < 2 {
+        return winner;
+    }
+    writing::write(output, compare::block(outputs, p, winner.replica));
+    winner
 }

@@ -4,11 +4,11 @@ mod elect;
 
 use answer::Refusal;
 ghost use mathlib.Core.Path.{_≡_};
-ghost use Prim.Native.Nat.{_≤_};
+ghost use Prim.Native.Nat.{_≤_, _<_};
 ghost use lib.ListN.{length};
-ghost use Rattle.vote.specs.Decide.{most, firstOf, blockIn, invalid, count, sideBySide, decide};
+ghost use Rattle.vote.specs.Decide.{most, firstOf, invalid, sideBySide, decide};
 ghost use Rattle.vote.specs.Decide.{tally, tallyOf, outputAfter, NamesWinner};
-ghost use Rattle.vote.specs.Groups.{rowOf, Placed};
+ghost use Rattle.vote.specs.Groups.{rowOf, tallied};
 
 const FEWEST_REPLICAS: usize = 3;
 
@@ -42,22 +42,14 @@ pub enum Verdict {
 fn is_invalid(blocks_len: usize, replicas: usize, block_len: usize, output_len: usize) -> bool
     ensures { λ r. ⌜ r ≡ invalid «blocks_len» replicas «block_len» «output_len» ⌝ }
 {
-    if replicas < FEWEST_REPLICAS {
+    if (replicas < FEWEST_REPLICAS)
+        | (MOST_REPLICAS < replicas)
+        | (block_len < 1)
+        | (LONGEST_BLOCK < block_len)
+    {
         return true;
     }
-    if MOST_REPLICAS < replicas {
-        return true;
-    }
-    if block_len < 1 {
-        return true;
-    }
-    if LONGEST_BLOCK < block_len {
-        return true;
-    }
-    if blocks_len != replicas * block_len {
-        return true;
-    }
-    output_len < block_len
+    (blocks_len != replicas * block_len) | (output_len < block_len)
 }
 
 // The first k replicas, a bit each.
@@ -80,19 +72,13 @@ fn side_by_side(replicas: usize, block_len: usize) -> Places
     }
 }
 
-// The block of the winner goes to the front of `output`, if two or more share it.
-fn count(outputs: &[u8], voting: u32, p: Places, output: &mut [u8]) -> Verdict
-    requires { ⌜ Placed (rowOf voting) (now outputs) p × (p .len ≤ length (now output)) ⌝ }
-    ensures { λ r.
-        let d = count (rowOf voting) (blockIn (now (outputs .entry)) p) in
-        ⌜ (tallyOf r ≡ tally d (tallyOf r .replica)) × (now (output .exit) ≡ outputAfter d (now (output .entry))) ⌝ }
-    ensures { λ r. ⌜ NamesWinner (tallyOf r) ⌝ }
+fn answer(winner: Elected) -> Verdict
+    requires { ⌜ winner .replica < most ⌝ }
+    ensures { λ r. ⌜ tallyOf r ≡ tallied winner ⌝ }
 {
-    let winner = elect::elect(outputs, voting, p);
     if winner.count < 2 {
         return Verdict::Refused(Refusal::NoAgreement);
     }
-    writing::write(output, compare::block(outputs, p, winner.replica));
     Verdict::Agreed {
         mask: winner.mask,
         count: winner.count,
@@ -111,10 +97,10 @@ pub fn vote(blocks: &[u8], replicas: usize, block_len: usize, output: &mut [u8])
     if is_invalid(blocks.len(), replicas, block_len, output.len()) {
         return Verdict::Refused(Refusal::InvalidVote);
     }
-    count(
+    answer(elect::elect(
         blocks,
         first(replicas),
         side_by_side(replicas, block_len),
         output,
-    )
+    ))
 }

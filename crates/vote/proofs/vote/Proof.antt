@@ -1,10 +1,10 @@
--- `vote::vote` meets its contract: a refusal for numbers that are not allowed, else what is counted.
+-- `vote::vote` meets its contract: a refusal for numbers that are not allowed, else what is elected.
 use mathlib.Core.Path.{refl, sym, _∙_}
 use native.Mathlib.Omega.{arith}
 use lib.ListN.{length}
 use borrow.Author.Needs.{needs}
-use Rattle.vote.specs.Decide.{decide}
-use Rattle.vote.proofs.Decision.{Allowed, allowed, placed}
+use Rattle.vote.specs.Decide.{firstOf, blockIn, sideBySide, decide}
+use Rattle.vote.proofs.Decision.{Allowed, allowed, placed, count-tally, count-named}
 use Rattle.vote.proofs.vote.Statement.{statement}
 use Rattle.vote.proofs.vote.Tie as tie
 
@@ -27,10 +27,16 @@ first-requires c κs = allowed-here c .few
 side-by-side-requires : tie.Need-side-by-side-requires
 side-by-side-requires c κs = search needs
 
-count-requires : tie.Need-count-requires
-count-requires c κs =
+elect-requires : tie.Need-elect-requires
+elect-requires c κs =
     let numbers = allowed-here (c .before .before .before) in
     rw (c .before .before .first .ensures, c .before .side-by-side .ensures) (placed numbers, numbers .room)
+
+answer-requires : tie.Need-answer-requires
+answer-requires c κs =
+    let placed = c .before .before .before .before in
+    let within = rw (placed .side-by-side .ensures) at (c .before .before .elect .ensures .1) in
+    omega (arith, within, allowed-here (placed .before .before) .few)
 
 same-length : tie.Need-same-length
 same-length c = search needs
@@ -38,12 +44,25 @@ same-length c = search needs
 returns-2 : tie.Need-returns-2
 unfolding decide
 returns-2 c =
-    let placed = c .before .before .before .before in
-    let allowed = placed .before .before in
-    let counted = rw (placed .before .first .ensures, placed .side-by-side .ensures) at (c .before .before .count .ensures) in
-    rw (sym (allowed .before .is-invalid .ensures) ∙ allowed .if1 .left, decide) counted
+    let placed = c .before .before .before .before .before in
+    let valid = placed .before .before in
+    let a = valid .before .before .before .before .args in
+    let elected = rw (placed .before .first .ensures, placed .side-by-side .ensures) at (c .before .before .before .elect .ensures) in
+    let voters = firstOf (a .replicas) in
+    let block = blockIn (a .blocks .now) (sideBySide (a .replicas) (a .block-len)) in
+    let named = count-named voters block (elected .0) (omega (arith, elected .1, allowed-here valid .few)) in
+    rw (sym (valid .before .is-invalid .ensures) ∙ valid .if1 .left, decide, c .answer .ensures)
+    ((count-tally voters block (elected .0), elected .2), named)
 
 pub vote-spec : {M : Type 1} → statement M
 vote-spec =
     tie.close
-    (tie.spec is-invalid-requires returns first-requires side-by-side-requires count-requires same-length returns-2)
+    (tie.spec
+    is-invalid-requires
+    returns
+    first-requires
+    side-by-side-requires
+    elect-requires
+    answer-requires
+    same-length
+    returns-2)

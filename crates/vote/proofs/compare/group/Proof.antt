@@ -2,6 +2,7 @@
 use Prim.Native.Nat.{_-_, _≤_}
 use native.Mathlib.Nat.{sub-zero}
 use native.Mathlib.Omega.{arith}
+use borrow.Author.Count.{falls}
 use mathlib.Core.Path.{_≡_, sym, _∙_}
 use Rattle.search.specs.First.{first}
 use Rattle.search.proofs.First.{first-found, first-past, first-none}
@@ -33,7 +34,7 @@ add-r : tie.Need-add-r Inv-loop μ-loop
 add-r c = omega arith
 
 loop-less : tie.Need-loop-less Inv-loop μ-loop
-loop-less c = omega arith
+loop-less c = falls _ _ (c .before .before .loop-test .taken)
 
 loop-again : tie.Need-loop-again Inv-loop μ-loop
 loop-again c = (

@@ -1,6 +1,7 @@
 -- `row` meets its contract. The loop's invariant: the entries before this one are those of the row.
 use Prim.Native.Nat.{_-_}
 use native.Mathlib.Omega.{arith}
+use borrow.Author.Count.{falls}
 use mathlib.Core.Bool.{false}
 use Rattle.vote.specs.Groups.{rowOf, together}
 use Rattle.vote.proofs.Tables.{Filled, filled-none, filled-more, filled-all}
@@ -23,16 +24,16 @@ loop-holds : tie.Need-loop-holds Inv-loop μ-loop
 loop-holds c = filled-none
 
 array-read-out : tie.Need-array-read-out Inv-loop μ-loop
-array-read-out c = omega arith
+array-read-out c = c .loop-test .taken
 
 array-write-out : tie.Need-array-write-out Inv-loop μ-loop
-array-write-out c = omega arith
+array-write-out c = c .loop-test .taken
 
 add-j : tie.Need-add-j Inv-loop μ-loop
 add-j c = omega arith
 
 loop-less : tie.Need-loop-less Inv-loop μ-loop
-loop-less c = omega arith
+loop-less c = falls _ _ (c .loop-test .taken)
 
 loop-again : tie.Need-loop-again Inv-loop μ-loop
 loop-again c = filled-more (c .before .loop .inv) (omega arith) (rw (c .before .before .votes .ensures))
