@@ -103,13 +103,3 @@ module _ (test : ℕ → Bool) where
     | yes h ↦ first-passes i k h
     | no h ↦ let end : first test i k ≡ i + k = omega (arith, first-range i k) in rw end e
   ]
-
-  -- where it passes it does not depend on how far the search may go
-  pub first-same : (i j k : ℕ) → test (first test i j) ≡ true → test (first test i k) ≡ true → first test i j ≡ first test i k
-  first-same i j k p q = omega (arith, least j k p, least k j q)
-    where
-      least : (a b : ℕ) → test (first test i a) ≡ true → first test i b ≤ first test i a
-      least a b e = elim (decLt (first test i a) (first test i b)) [
-        | yes h ↦ absurd (true≢false (sym e ∙ first-before i b _ (first-range i a .0) h))
-        | no h ↦ omega arith
-      ]

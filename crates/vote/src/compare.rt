@@ -91,11 +91,13 @@ fn row(groups: [u8; 16], voting: u32, i: usize) -> [bool; 16]
     ensures { λ r. ⌜ r ≡ tabulate (together (rowOf voting) groups i) 0 16 ⌝ }
 {
     let mut out = [false; 16];
-    let voter = votes(voting, i);
+    if !votes(voting, i) {
+        return out;
+    }
     let own = groups[i];
     let mut j: usize = 0;
     while j < 16 {
-        out[j] = voter & (own == groups[j]);
+        out[j] = own == groups[j];
         j += 1;
     }
     out
