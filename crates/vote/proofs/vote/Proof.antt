@@ -1,5 +1,6 @@
 -- `vote::vote` meets its contract: a refusal for numbers that are not allowed, else what is elected.
 use mathlib.Core.Path.{refl, sym, _∙_}
+use native.Mathlib.Nat.{lt-of-lt-of-le}
 use native.Mathlib.Omega.{arith}
 use lib.ListN.{length}
 use borrow.Author.Needs.{needs}
@@ -36,7 +37,7 @@ answer-requires : tie.Need-answer-requires
 answer-requires c κs =
     let placed = c .before .before .before .before in
     let within = rw (placed .side-by-side .ensures) at (c .before .before .elect .ensures .1) in
-    omega (arith, within, allowed-here (placed .before .before) .few)
+    lt-of-lt-of-le within (allowed-here (placed .before .before) .few)
 
 same-length : tie.Need-same-length
 same-length c = search needs
@@ -50,7 +51,7 @@ returns-2 c =
     let elected = rw (placed .before .first .ensures, placed .side-by-side .ensures) at (c .before .before .before .elect .ensures) in
     let voters = firstOf (a .replicas) in
     let block = blockIn (a .blocks .now) (sideBySide (a .replicas) (a .block-len)) in
-    let named = count-named voters block (elected .0) (omega (arith, elected .1, allowed-here valid .few)) in
+    let named = count-named voters block (elected .0) (lt-of-lt-of-le (elected .1) (allowed-here valid .few)) in
     rw (sym (valid .before .is-invalid .ensures) ∙ valid .if1 .left, decide, c .answer .ensures)
     ((count-tally voters block (elected .0), elected .2), named)
 
