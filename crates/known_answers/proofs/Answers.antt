@@ -21,7 +21,8 @@ use Rattle.rules.specs.Call.{serving, opening}
 use Rattle.rules.specs.Inspect.{inspection}
 use Rattle.alike.specs.Alike.{alike}
 use Rattle.search.specs.Tabulate.{tabulate}
-use Rattle.vote.specs.Decide.{digits, leader, count, decide}
+use Rattle.elect.specs.Leader.{digits, leader}
+use Rattle.vote.specs.Decide.{count, decide}
 use Rattle.alike.proofs.Equal.{alike-equal}
 use Rattle.known_answers.specs.Calls.{Row, example, numbers, answerToOpening, clear, answerTo, leftAfter, placeOf, showing, voting}
 use Rattle.known_answers.specs.Calls.{inspecting}

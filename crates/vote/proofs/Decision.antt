@@ -1,5 +1,5 @@
 -- A vote's decision from what the code finds.
-use Prim.Native.Nat.{ℕ, _+_, _*_, _≤_, _<_}
+use Prim.Native.Nat.{ℕ, _+_, _*_, _≤_, _<_, min}
 use native.Mathlib.Nat.{suc-mul, mul-le-mul-right}
 use native.Mathlib.Decide.{decLt}
 use native.Mathlib.Omega.{arith}
@@ -16,12 +16,14 @@ use Rattle.search.specs.Tabulate.{tabulate}
 use Rattle.search.proofs.Tabulate.{tabulate-at, tabulate-length}
 use Rattle.writing.specs.Overwrite.{overwrite}
 use Rattle.vote.specs.declared.Places.{Places}
-use Rattle.vote.specs.declared.Elected.{Elected}
-use Rattle.vote.specs.Groups.{Placed, Countable, electedOf, tallied}
-use Rattle.vote.specs.Decide.{firstOf, blockIn, agree, row, agreements, votes, maskOf}
+use Rattle.elect.specs.declared.Elected.{Elected}
+use Rattle.elect.specs.Leader.{most, votes, maskOf, leader, electedOf}
+use Rattle.elect.proofs.Rows.{digits-none, digits-front, mask-bit}
+use Rattle.elect.proofs.Leading.{leader-le, leader-front}
+use Rattle.vote.specs.Groups.{Placed, Countable, winnerOf, tallied}
+use Rattle.vote.specs.Decide.{firstOf, blockIn, agree, row, agreements}
 use Rattle.vote.specs.Decide.{invalid, won, lost, count, sideBySide, tally, NamesWinner}
 use Rattle.vote.proofs.Comparing.{out-agrees, agrees-out, agree-self}
-use Rattle.vote.proofs.Winner.{digits-none, mask-bit}
 
 -- ---- the table
 
@@ -54,9 +56,22 @@ counted {voting} {outputs} {p} a =
       columns = λ i j l h. out-row voting (blockIn outputs p) i l j (a .none-past j h);
     }
 
+-- so who leads the replicas leads all, and all who agree with it are among them
+pub elected-wins : {table : List (List Bool)} {k : ℕ} → Countable table k → {w : Elected} → w ≡ electedOf table (min k most)
+    → (w ≡ winnerOf table) × (w .replica < k)
+elected-wins {table} {k} c e =
+    let all : min k most ≡ k = omega (arith, c .few) in
+    let leads : leader table most ≡ leader table k =
+    leader-front table k most (c .some) (c .few) (λ i a b. digits-none 1 _ (λ j. c .rows i j b a)) in
+    let low : leader table k < k = omega (arith, c .some, leader-le table k) in
+    let mask : maskOf (take k (getD table (leader table k) [])) ≡ maskOf (getD table (leader table k) []) =
+    digits-front 2 _ k (λ j. c .columns _ j (omega (arith, c .few))) in
+    let found = rw all at e in
+    (found ∙ rw (leads, mask), rw found low)
+
 -- ---- the winner
 
-module _ (voting : List Bool) (block : ℕ → List ℕ) {w : Elected} (e : w ≡ electedOf (agreements voting block)) where
+module _ (voting : List Bool) (block : ℕ → List ℕ) {w : Elected} (e : w ≡ winnerOf (agreements voting block)) where
   -- those who agree with it
   abbrev pub winners : List Bool
   winners = getD (agreements voting block) (w .replica) []

@@ -2,5 +2,4 @@
 pub mod Comparing
 pub mod Decision
 pub mod Tables
-pub mod Winner
 pub mod Examples

@@ -1,11 +1,12 @@
 -- The vote of replicas on a block of output.
-use Prim.Native.Nat.{ℕ, zero, suc, _+_, _*_, _/_, _%_, _^_}
+use Prim.Native.Nat.{ℕ, _+_, _*_, _/_, _%_, _^_}
 use mathlib.Core.Path.{_≡_}
-use mathlib.Core.Bool.{Bool, true, false, not, cond, _&&_, _||_}
-use mathlib.Core.List.{List, [], _∷_, _++_}
+use mathlib.Core.Bool.{Bool, true, false, not, _&&_, _||_}
+use mathlib.Core.List.{List, [], _++_}
 use lib.ListN.{length, getD, take, drop}
 use lib.Dec.{ltb, eqb}
 use Rattle.alike.specs.Alike.{alike}
+use Rattle.elect.specs.Leader.{most, votes, maskOf, leader}
 use Rattle.search.specs.Tabulate.{tabulate}
 use Rattle.answer.specs.declared.Refusal.{Refusal}
 use Rattle.answer.specs.declared.Refusal.the-variants.{InvalidVote, NoAgreement}
@@ -16,12 +17,9 @@ use Rattle.vote.specs.declared.Verdict.the-variants.{Agreed, Refused}
 
 -- ---- limits
 
--- replicas from 3 to 16, and blocks of up to 4,096 bytes
+-- replicas from 3 to `most`, and blocks of up to 4,096 bytes
 abbrev pub fewest : ℕ
 fewest = 3
-
-abbrev pub most : ℕ
-most = 16
 
 abbrev pub longest : ℕ
 longest = 4096
@@ -48,27 +46,6 @@ row voting block i = tabulate (agree voting block i) 0 most
 
 abbrev pub agreements : List Bool → (ℕ → List ℕ) → List (List Bool)
 agreements voting block = tabulate (row voting block) 0 most
-
--- ---- the winner
-
--- a row as digits, replica 0's the lowest
-unfoldable pub digits : ℕ → List Bool → ℕ
-digits base [] = 0
-digits base (yes? ∷ row) = cond yes? 1 0 + base * digits base row
-
--- how many replicas a row says yes to, and the same replicas as a mask: bit r for replica r
-abbrev pub votes : List Bool → ℕ
-votes row = digits 1 row
-
-abbrev pub maskOf : List Bool → ℕ
-maskOf row = digits 2 row
-
--- of the first n replicas, the lowest-numbered among those with most votes
-unfoldable pub leader : List (List Bool) → ℕ → ℕ
-leader table zero = 0
-leader table (suc i) =
-    let best : ℕ = leader table i in
-    elim (ltb (votes (getD table best [])) (votes (getD table i []))) [ true ↦ i | false ↦ best ]
 
 -- ---- the decision
 

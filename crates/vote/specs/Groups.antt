@@ -10,8 +10,9 @@ use Rattle.search.specs.Tabulate.{tabulate}
 use Rattle.answer.specs.declared.Refusal.the-variants.{NoAgreement}
 use Rattle.answer.specs.Reply.{numberOf}
 use Rattle.vote.specs.declared.Places.{Places}
-use Rattle.vote.specs.declared.Elected.{Elected}
-use Rattle.vote.specs.Decide.{most, agree, votes, maskOf, leader, Tally}
+use Rattle.elect.specs.declared.Elected.{Elected}
+use Rattle.elect.specs.Leader.{most, votes, maskOf, leader}
+use Rattle.vote.specs.Decide.{agree, Tally}
 
 -- those whose bits are set in a mask, as a row of all sixteen
 abbrev pub rowOf : ℕ → List Bool
@@ -42,9 +43,9 @@ pub record Countable (table : List (List Bool)) (k : ℕ) : Type 0 where
   pub rows : (i j : ℕ) → i < most → k ≤ i → getD (getD table i []) j false ≡ false
   pub columns : (i j : ℕ) → i < most → k ≤ j → getD (getD table i []) j false ≡ false
 
--- the leader, with its votes and their mask
-abbrev pub electedOf : List (List Bool) → Elected
-electedOf table =
+-- the leader of all, with its votes and their mask
+abbrev pub winnerOf : List (List Bool) → Elected
+winnerOf table =
     let best : ℕ = leader table most in
     let row : List Bool = getD table best [] in
     record { replica = best; count = votes row; mask = maskOf row }

@@ -1,14 +1,15 @@
 // The vote: what most replicas wrote goes on, if two or more wrote it.
 mod compare;
-mod elect;
 
 use answer::Refusal;
+use elect::Elected;
 ghost use mathlib.Core.Path.{_≡_};
 ghost use Prim.Native.Nat.{_≤_, _<_};
 ghost use lib.ListN.{length};
-ghost use Rattle.vote.specs.Decide.{most, firstOf, invalid, sideBySide, decide};
+ghost use Rattle.elect.specs.Leader.{most};
+ghost use Rattle.vote.specs.Decide.{firstOf, blockIn, agreements, invalid, count, sideBySide, decide};
 ghost use Rattle.vote.specs.Decide.{tally, tallyOf, outputAfter, NamesWinner};
-ghost use Rattle.vote.specs.Groups.{rowOf, tallied};
+ghost use Rattle.vote.specs.Groups.{rowOf, Placed, winnerOf, tallied};
 
 const FEWEST_REPLICAS: usize = 3;
 
@@ -23,13 +24,6 @@ pub struct Places {
     pub apart: usize,
     pub at: usize,
     pub len: usize,
-}
-
-// A replica with most votes, how many these are, and whose.
-pub struct Elected {
-    pub replica: usize,
-    pub count: u32,
-    pub mask: u32,
 }
 
 pub enum Verdict {
@@ -72,6 +66,23 @@ fn side_by_side(replicas: usize, block_len: usize) -> Places
     }
 }
 
+// The winner among those who vote, a bit each. If two or more share its block, this goes to the front of `output`.
+fn elected(outputs: &[u8], voting: u32, p: Places, output: &mut [u8]) -> Elected
+    requires { ⌜ Placed (rowOf voting) (now outputs) p × (p .len ≤ length (now output)) ⌝ }
+    ensures { λ r.
+        let block = blockIn (now (outputs .entry)) p in
+        ⌜ (r ≡ winnerOf (agreements (rowOf voting) block))
+        × (r .replica < p .replicas)
+        × (now (output .exit) ≡ outputAfter (count (rowOf voting) block) (now (output .entry))) ⌝ }
+{
+    let winner = elect::winner(compare::agreements(outputs, voting, p), p.replicas);
+    if winner.count < 2 {
+        return winner;
+    }
+    writing::write(output, compare::block(outputs, p, winner.replica));
+    winner
+}
+
 fn answer(winner: Elected) -> Verdict
     requires { ⌜ winner .replica < most ⌝ }
     ensures { λ r. ⌜ tallyOf r ≡ tallied winner ⌝ }
@@ -97,7 +108,7 @@ pub fn vote(blocks: &[u8], replicas: usize, block_len: usize, output: &mut [u8])
     if is_invalid(blocks.len(), replicas, block_len, output.len()) {
         return Verdict::Refused(Refusal::InvalidVote);
     }
-    answer(elect::elect(
+    answer(elected(
         blocks,
         first(replicas),
         side_by_side(replicas, block_len),

@@ -28,15 +28,15 @@ first-requires c κs = allowed-here c .few
 side-by-side-requires : tie.Need-side-by-side-requires
 side-by-side-requires c κs = search needs
 
-elect-requires : tie.Need-elect-requires
-elect-requires c κs =
+elected-requires : tie.Need-elected-requires
+elected-requires c κs =
     let numbers = allowed-here (c .before .before .before) in
     rw (c .before .before .first .ensures, c .before .side-by-side .ensures) (placed numbers, numbers .room)
 
 answer-requires : tie.Need-answer-requires
 answer-requires c κs =
     let placed = c .before .before .before .before in
-    let within = rw (placed .side-by-side .ensures) at (c .before .before .elect .ensures .1) in
+    let within = rw (placed .side-by-side .ensures) at (c .before .before .elected .ensures .1) in
     lt-of-lt-of-le within (allowed-here (placed .before .before) .few)
 
 same-length : tie.Need-same-length
@@ -48,7 +48,7 @@ returns-2 c =
     let placed = c .before .before .before .before .before in
     let valid = placed .before .before in
     let a = valid .before .before .before .before .args in
-    let elected = rw (placed .before .first .ensures, placed .side-by-side .ensures) at (c .before .before .before .elect .ensures) in
+    let elected = rw (placed .before .first .ensures, placed .side-by-side .ensures) at (c .before .before .before .elected .ensures) in
     let voters = firstOf (a .replicas) in
     let block = blockIn (a .blocks .now) (sideBySide (a .replicas) (a .block-len)) in
     let named = count-named voters block (elected .0) (lt-of-lt-of-le (elected .1) (allowed-here valid .few)) in
@@ -63,7 +63,7 @@ vote-spec =
     returns
     first-requires
     side-by-side-requires
-    elect-requires
+    elected-requires
     answer-requires
     same-length
     returns-2)

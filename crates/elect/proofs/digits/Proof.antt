@@ -3,9 +3,10 @@ use Prim.Native.Nat.{_-_}
 use native.Mathlib.Omega.{arith}
 use mathlib.Core.Bool.{false}
 use lib.ListN.{getD}
-use Rattle.vote.proofs.Winner.{digit, Summed, summed-none, summed-fits, summed-more, summed-all}
-use Rattle.vote.proofs.elect.digits.Statement.{statement}
-use Rattle.vote.proofs.elect.digits.Tie as tie
+use lib.Seq.{take-all}
+use Rattle.elect.proofs.Rows.{digit, Summed, summed-none, summed-fits, summed-more, summed-all}
+use Rattle.elect.proofs.digits.Statement.{statement}
+use Rattle.elect.proofs.digits.Tie as tie
 
 abbrev Inv-loop : tie.InvT-loop
 Inv-loop base n row sum₀ i₀ sum i = Summed base row n sum i
@@ -14,7 +15,7 @@ abbrev μ-loop : tie.MeasureT-loop
 μ-loop base n row sum₀ i₀ sum i = i
 
 loop-holds : tie.Need-loop-holds Inv-loop μ-loop
-loop-holds c = summed-none (c .pre .2)
+loop-holds c = summed-none
 
 sub-i : tie.Need-sub-i Inv-loop μ-loop
 sub-i c = omega arith
@@ -41,7 +42,7 @@ loop-again : tie.Need-loop-again Inv-loop μ-loop
 loop-again c = summed-more (c .before .loop .inv) (omega arith) (omega arith)
 
 returns : tie.Need-returns Inv-loop μ-loop
-returns c = summed-all (c .before .loop .inv) (omega arith)
+returns c = (summed-all (c .before .loop .inv) (omega arith), take-all 16 _ (omega arith))
 
 pub digits-spec : {M : Type 1} → statement M
 digits-spec =

@@ -1,0 +1,37 @@
+-- The winner of a table of which two replicas agree.
+use Prim.Native.Nat.{ℕ, zero, suc, _+_, _*_}
+use mathlib.Core.Bool.{Bool, true, false, cond}
+use mathlib.Core.List.{List, [], _∷_}
+use lib.ListN.{getD, take}
+use lib.Dec.{ltb}
+use Rattle.elect.specs.declared.Elected.{Elected}
+
+-- replicas of a table
+abbrev pub most : ℕ
+most = 16
+
+-- a row as digits, replica 0's the lowest
+unfoldable pub digits : ℕ → List Bool → ℕ
+digits base [] = 0
+digits base (yes? ∷ row) = cond yes? 1 0 + base * digits base row
+
+-- how many replicas a row says yes to, and the same replicas as a mask: bit r for replica r
+abbrev pub votes : List Bool → ℕ
+votes row = digits 1 row
+
+abbrev pub maskOf : List Bool → ℕ
+maskOf row = digits 2 row
+
+-- of the first n replicas, the lowest-numbered among those with most votes
+unfoldable pub leader : List (List Bool) → ℕ → ℕ
+leader table zero = 0
+leader table (suc i) =
+    let best : ℕ = leader table i in
+    elim (ltb (votes (getD table best [])) (votes (getD table i []))) [ true ↦ i | false ↦ best ]
+
+-- the leader of the first n, with its votes and the mask of those among them
+abbrev pub electedOf : List (List Bool) → ℕ → Elected
+electedOf table n =
+    let best : ℕ = leader table n in
+    let row : List Bool = getD table best [] in
+    record { replica = best; count = votes row; mask = maskOf (take n row) }

@@ -1,0 +1,55 @@
+// Counting: the winner of a table of which two replicas agree.
+use numbers::least;
+ghost use mathlib.Core.Path.{_≡_};
+ghost use Prim.Native.Nat.{_≤_, min};
+ghost use lib.ListN.{take};
+ghost use Rattle.elect.specs.Leader.{most, digits, electedOf};
+
+// All replicas of a table.
+const MOST: usize = 16;
+
+// A replica with most votes, how many these are, and whose.
+pub struct Elected {
+    pub replica: usize,
+    pub count: u32,
+    pub mask: u32,
+}
+
+// The first n replicas of a row as digits in base 1, which counts them, or in base 2, which is their mask.
+fn digits(row: [bool; 16], base: u32, n: usize) -> u32
+    requires { ⌜ (base ≤ 2) × (n ≤ 16) ⌝ }
+    ensures { λ r. ⌜ r ≡ digits base (take n row) ⌝ }
+    // For those who count all: a row's length is in its type, and no other clause says it.
+    ensures whole { λ _. ⌜ take 16 row ≡ row ⌝ }
+{
+    let mut sum: u32 = 0;
+    let mut i = n;
+    while 0 < i {
+        i -= 1;
+        sum = row[i] as u32 + base * sum;
+    }
+    sum
+}
+
+// The lowest-numbered among those of the first replicas that have most votes.
+pub fn winner(table: [[bool; 16]; 16], replicas: usize) -> Elected
+    ensures { λ r. ⌜ r ≡ electedOf table (min replicas most) ⌝ }
+{
+    let last = least(replicas, MOST);
+    let mut best: usize = 0;
+    let mut top = digits(table[0], 1, MOST);
+    let mut i: usize = 1;
+    while i < last {
+        let votes = digits(table[i], 1, MOST);
+        if top < votes {
+            best = i;
+            top = votes;
+        }
+        i += 1;
+    }
+    Elected {
+        replica: best,
+        count: top,
+        mask: digits(table[best], 2, last),
+    }
+}
