@@ -1,3 +1,4 @@
--- Laws of rows and of the leader of a table.
+-- Laws of rows and tables of all replicas, and of the leader.
+pub mod Tables
 pub mod Rows
 pub mod Leading

@@ -3,7 +3,7 @@ use Prim.Native.Nat.{ℕ, zero, suc, _+_, _*_}
 use mathlib.Core.Bool.{Bool, true, false, cond}
 use mathlib.Core.List.{List, [], _∷_}
 use lib.ListN.{getD, take}
-use lib.Dec.{ltb}
+use lib.Dec.{ltb, eqb}
 use Rattle.elect.specs.declared.Elected.{Elected}
 
 -- replicas of a table
@@ -35,3 +35,7 @@ electedOf table n =
     let best : ℕ = leader table n in
     let row : List Bool = getD table best [] in
     record { replica = best; count = votes row; mask = maskOf (take n row) }
+
+-- one number in the place of another
+abbrev pub instead : ℕ → ℕ → ℕ → ℕ
+instead old new n = cond (eqb n old) new n

@@ -1,9 +1,10 @@
-// Counting: the winner of a table of which two replicas agree.
+// Rows of all replicas: groups of them, and the winner of a table of which two agree.
 use numbers::least;
 ghost use mathlib.Core.Path.{_≡_};
 ghost use Prim.Native.Nat.{_≤_, min};
-ghost use lib.ListN.{take};
-ghost use Rattle.elect.specs.Leader.{most, digits, electedOf};
+ghost use lib.ListN.{take, getD};
+ghost use Rattle.search.specs.Tabulate.{tabulate};
+ghost use Rattle.elect.specs.Leader.{most, digits, electedOf, instead};
 
 // All replicas of a table.
 const MOST: usize = 16;
@@ -52,4 +53,18 @@ pub fn winner(table: [[bool; 16]; 16], replicas: usize) -> Elected
         count: top,
         mask: digits(table[best], 2, last),
     }
+}
+
+// Each replica's group, with one group instead of another. Every entry is made anew, since a vector that is loaded from
+// bytes just stored waits for them.
+pub fn replaced(groups: [u8; 16], old: u8, new: u8) -> [u8; 16]
+    ensures { λ r. ⌜ r ≡ tabulate (λ j. instead old new (getD groups j 0)) 0 most ⌝ }
+{
+    let mut out = [0u8; 16];
+    let mut j: usize = 0;
+    while j < MOST {
+        out[j] = if groups[j] == old { new } else { groups[j] };
+        j += 1;
+    }
+    out
 }

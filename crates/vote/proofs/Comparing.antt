@@ -18,7 +18,7 @@ use Rattle.alike.specs.Alike.{alike}
 use Rattle.alike.proofs.Equal.{alike-self, alike-equal, same-truth}
 use Rattle.vote.specs.Decide.{firstOf, agree, row}
 use Rattle.vote.specs.Groups.{rowOf, groupOf, groupsOf, together}
-use Rattle.vote.proofs.Tables.{Filled}
+use Rattle.elect.proofs.Tables.{Filled}
 
 -- the first k as bits, one computation for every k
 first-rows : tabulate (λ k. rowOf (1 * 2 ^ k % 2 ^ 32 - 1)) 0 17 ≡ tabulate firstOf 0 17

@@ -1,10 +1,9 @@
 // Comparing: the table of which two replicas agree.
 use crate::Places;
 ghost use mathlib.Core.Path.{_≡_};
-ghost use Prim.Native.Nat.{ℕ, _+_, _*_, _<_, _≤_};
+ghost use Prim.Native.Nat.{_+_, _*_, _<_, _≤_};
 ghost use mathlib.Core.Bool.{false};
-ghost use mathlib.Core.Logic.{_↔_};
-ghost use lib.ListN.{length, getD, set};
+ghost use lib.ListN.{length, getD};
 ghost use Rattle.search.specs.Tabulate.{tabulate};
 ghost use Rattle.vote.specs.Decide.{blockIn, agree, agreements};
 ghost use Rattle.vote.specs.Groups.{rowOf, Placed, groupOf, groupsOf, together};
@@ -55,21 +54,6 @@ fn group(outputs: &[u8], voting: u32, p: Places, i: usize) -> usize
     i
 }
 
-// The groups with another one for replica i, which is found by its number. Every entry is made anew, since a vector that
-// is loaded from bytes just stored waits for them.
-fn regrouped(old: [u8; 16], i: u8, group: u8) -> [u8; 16]
-    requires { ⌜ ((j : ℕ) → j < 16 → (getD old j 0 ≡ i) ↔ (j ≡ i)) ⌝ }
-    ensures { λ r. ⌜ r ≡ set old i group ⌝ }
-{
-    let mut out = [0u8; 16];
-    let mut j: usize = 0;
-    while j < 16 {
-        out[j] = if old[j] == i { group } else { old[j] };
-        j += 1;
-    }
-    out
-}
-
 // Two that vote agree where their groups are one, and a replica is compared with earlier ones only until one agrees. A
 // replica that was not looked at yet is its own group.
 fn groups(outputs: &[u8], voting: u32, p: Places) -> [u8; 16]
@@ -79,7 +63,7 @@ fn groups(outputs: &[u8], voting: u32, p: Places) -> [u8; 16]
     let mut out = [0u8, 1, 2, 3, 4, 5, 6, 7, 8, 9, 10, 11, 12, 13, 14, 15];
     let mut i: usize = 1;
     while i < p.replicas {
-        let next = regrouped(out, i as u8, group(outputs, voting, p, i) as u8);
+        let next = elect::replaced(out, i as u8, group(outputs, voting, p, i) as u8);
         out = next;
         i += 1;
     }

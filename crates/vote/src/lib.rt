@@ -83,17 +83,17 @@ fn elected(outputs: &[u8], voting: u32, p: Places, output: &mut [u8]) -> Elected
     winner
 }
 
-fn answer(winner: Elected) -> Verdict
-    requires { ⌜ winner .replica < most ⌝ }
-    ensures { λ r. ⌜ tallyOf r ≡ tallied winner ⌝ }
+fn answer(elected: Elected) -> Verdict
+    requires { ⌜ elected .replica < most ⌝ }
+    ensures { λ r. ⌜ tallyOf r ≡ tallied elected ⌝ }
 {
-    if winner.count < 2 {
+    if elected.count < 2 {
         return Verdict::Refused(Refusal::NoAgreement);
     }
     Verdict::Agreed {
-        mask: winner.mask,
-        count: winner.count,
-        replica: winner.replica as u32,
+        mask: elected.mask,
+        count: elected.count,
+        replica: elected.replica as u32,
     }
 }
 

@@ -1,9 +1,11 @@
 -- `groups` meets its contract. The loop's invariant: the replicas before this one are in their groups.
 use Prim.Native.Nat.{_-_}
 use native.Mathlib.Omega.{arith}
+use mathlib.Core.Path.{_∙_}
 use Rattle.vote.specs.Decide.{blockIn}
 use Rattle.vote.specs.Groups.{rowOf, groupOf}
-use Rattle.vote.proofs.Tables.{Filled, filled-more, filled-all}
+use borrow.Author.Needs.{needs}
+use Rattle.elect.proofs.Tables.{Filled, filled-more, filled-all, replaced-set}
 use Rattle.vote.proofs.Comparing.{group-le, group-out, groups-none, groups-own}
 use Rattle.vote.proofs.compare.groups.Statement.{statement}
 use Rattle.vote.proofs.compare.groups.Tie as tie
@@ -17,21 +19,19 @@ abbrev μ-loop : tie.MeasureT-loop
 loop-holds : tie.Need-loop-holds Inv-loop μ-loop
 loop-holds c = let a = c .before .args in groups-none (rowOf (a .voting)) (blockIn (a .outputs .now) (a .p))
 
-cast-regrouped : tie.Need-cast-regrouped Inv-loop μ-loop
-cast-regrouped c = omega arith
+cast-replaced : tie.Need-cast-replaced Inv-loop μ-loop
+cast-replaced c = omega arith
 
 group-requires : tie.Need-group-requires Inv-loop μ-loop
 group-requires c κs = (c .before .before .before .before .pre, omega arith)
 
-cast-regrouped-2 : tie.Need-cast-regrouped-2 Inv-loop μ-loop
-cast-regrouped-2 c =
+cast-replaced-2 : tie.Need-cast-replaced-2 Inv-loop μ-loop
+cast-replaced-2 c =
     let a = c .before .before .before .before .before .args in
     omega (arith, c .group .ensures, group-le (rowOf (a .voting)) (blockIn (a .outputs .now) (a .p)) (c .before .before .before .loop .i))
 
-regrouped-requires : tie.Need-regrouped-requires Inv-loop μ-loop
-regrouped-requires c κs =
-    let a = c .before .before .before .before .before .args in
-    groups-own (rowOf (a .voting)) (blockIn (a .outputs .now) (a .p)) (c .before .before .before .loop .inv)
+replaced-requires : tie.Need-replaced-requires Inv-loop μ-loop
+replaced-requires c κs = search needs
 
 add-i : tie.Need-add-i Inv-loop μ-loop
 add-i c = omega arith
@@ -41,7 +41,11 @@ loop-less c = omega arith
 
 loop-again : tie.Need-loop-again Inv-loop μ-loop
 loop-again c =
-    rw (c .regrouped .ensures) (filled-more (c .before .before .before .before .loop .inv) (omega arith) (c .before .group .ensures))
+    let a = c .before .before .before .before .before .before .args in
+    let l = c .before .before .before .before .loop in
+    let own = groups-own (rowOf (a .voting)) (blockIn (a .outputs .now) (a .p)) (l .inv) in
+    let stored = c .replaced .ensures ∙ replaced-set (l .out) (l .i) (c .before .group .result) (l .inv .size) (omega arith) own in
+    rw stored (filled-more (l .inv) (omega arith) (c .before .group .ensures))
 
 returns : tie.Need-returns Inv-loop μ-loop
 returns c =
@@ -57,10 +61,10 @@ groups-spec =
     Inv-loop
     μ-loop
     loop-holds
-    cast-regrouped
+    cast-replaced
     group-requires
-    cast-regrouped-2
-    regrouped-requires
+    cast-replaced-2
+    replaced-requires
     add-i
     loop-less
     loop-again

@@ -4,10 +4,13 @@ use native.Mathlib.Decide.{ℕ-discrete, decLt}
 use native.Mathlib.Omega.{arith}
 use mathlib.Core.Path.{_≡_, refl, sym, _∙_}
 use mathlib.Core.List.{List}
+use mathlib.Core.Logic.{_↔_}
+use borrow.Author.Tests.{eq-eqb, ne-eqb}
 use lib.ListN.{length, getD, set, replicate, length-set, getD-replicate}
 use lib.Seq.{getD-set-same, getD-set-other, ext-getD}
 use Rattle.search.specs.Tabulate.{tabulate}
 use Rattle.search.proofs.Tabulate.{tabulate-at, tabulate-length}
+use Rattle.elect.specs.Leader.{instead}
 
 -- an array of sixteen, at first as old has it, of which the first n entries are those of f
 pub record Filled {A : Type 0} (f old : ℕ → A) (out : List A) (n : ℕ) : Type 0 where
@@ -43,3 +46,19 @@ module _ {A : Type 0} {f old : ℕ → A} {out : List A} {n : ℕ} (filled : Fil
         | yes m ↦ filled .front d j m
         | no m ↦ filled .rest d j (omega arith) l ∙ h j (omega arith) l
       ]
+
+-- where one place alone has a number, another number in its place is one store
+pub replaced-set : (groups : List ℕ) (i new : ℕ) → length groups ≡ 16 → i < 16
+    → ((j : ℕ) → j < 16 → (getD groups j 0 ≡ i) ↔ (j ≡ i)) → tabulate (λ j. instead i new (getD groups j 0)) 0 16 ≡ set groups i new
+replaced-set groups i new size few own =
+    ext-getD 0 (tabulate entry 0 16) (set groups i new) (tabulate-length entry 0 16 ∙ sym (length-set groups i new ∙ size))
+    (λ j l. tabulate-at entry 0 16 j (omega (arith, tabulate-length entry 0 16)) ∙ at j (omega (arith, tabulate-length entry 0 16)))
+  where
+    entry : ℕ → ℕ
+    entry j = instead i new (getD groups j 0)
+
+    at : (j : ℕ) → j < 16 → instead i new (getD groups j 0) ≡ getD (set groups i new) j 0
+    at j l = elim (ℕ-discrete (getD groups j 0) i) [
+      | yes e ↦ rw (eq-eqb (getD groups j 0) i e, own j l .0 e) (sym (getD-set-same groups i new 0 (omega arith)))
+      | no e ↦ rw (ne-eqb (getD groups j 0) i e) (sym (getD-set-other groups i j new 0 (λ q. e (own j l .1 q))))
+    ]
