@@ -34,54 +34,62 @@ leader-front table k (suc n) h l none = elim (ℕ-discrete k (suc n)) [
       (leader-front table k n h (omega arith) (λ i a b. none i a (omega arith)))
 ]
 
--- ---- the loop that finds it
-
--- the leader of the first i of k replicas, with its votes; the first replica is counted before the loop
-pub record Led (table : List (List Bool)) (k best top i : ℕ) : Type 0 where
-  pub some : 0 < i
-  pub within : i ≤ suc (k - 1)
-  pub first : best ≡ leader table i
-  pub has : top ≡ votes (getD table best [])
-
--- of one replica it is the first, as of none
-leader-one : (table : List (List Bool)) → leader table 1 ≡ 0
-unfolding leader
-leader-one table = rw (le-ltb (votes (getD table 0 [])) (votes (getD table 0 [])) (omega arith), leader)
-
+-- of none the first leads
 leader-none : (table : List (List Bool)) → leader table 0 ≡ 0
 unfolding leader
 leader-none table = refl
 
-module _ {table : List (List Bool)} {k : ℕ} where
-  pub led-first : {top : ℕ} → top ≡ votes (getD table 0 []) → Led table k 0 top 1
-  led-first e = record { some = omega arith; within = omega arith; first = sym (leader-one table); has = e }
+-- ---- the loop that finds it
 
-  module _ {best top i : ℕ} (l : Led table k best top i) where
-    module _ (h : i < k) {v : ℕ} (e : v ≡ votes (getD table i [])) where
-      -- replica i has more votes, and leads
-      pub led-new : top < v → Led table k i v (i + 1)
-      unfolding leader
-      led-new m =
-          let n : leader table (suc i) ≡ i = rw (lt-ltb _ _ (rw (l .has, l .first, e) at m), leader) in
-          rw add-one record { some = omega arith; within = omega arith; first = sym n; has = e }
+-- the votes of the leader of the first i replicas; of none, 0
+abbrev pub topVotes : List (List Bool) → ℕ → ℕ → ℕ
+topVotes table best zero = 0
+topVotes table best (suc i) = votes (getD table best [])
 
-      -- it has no more, and who led leads on
-      pub led-old : v ≤ top → Led table k best top (i + 1)
-      unfolding leader
-      led-old m =
-          let o : leader table (suc i) ≡ best = rw (le-ltb _ _ (rw (l .has, l .first, e) at m), leader) (sym (l .first)) in
-          rw add-one record { some = omega arith; within = omega arith; first = sym o; has = l .has }
+-- the leader of the first i of k replicas, with its votes
+pub record Led (table : List (List Bool)) (best top i : ℕ) : Type 0 where
+  pub first : best ≡ leader table i
+  pub has : top ≡ topVotes table best i
 
-    -- all are counted
-    pub led-all : k ≤ i → (best ≡ leader table k) × (best ≤ k - 1)
-    led-all h = let e = go in (e, omega (arith, leader-le table k))
-      where
-        go : best ≡ leader table k
-        go = elim (ℕ-discrete k 0) [
-          | yes z ↦
-              let one : i ≡ 1 = omega (arith, l .some, l .within) in
-              l .first ∙ rw (one, z) (leader-one table ∙ sym (leader-none table))
-          | no z ↦
-              let all : i ≡ k = omega (arith, l .within) in
-              rw all at l .first
-        ]
+-- the same of one more, which may be the last
+pub record Counted (table : List (List Bool)) (best top i : ℕ) : Type 0 where
+  pub first : best ≡ leader table (suc i)
+  pub has : top ≡ votes (getD table best [])
+
+-- none counted yet
+pub led-none : {table : List (List Bool)} → Led table 0 0 0
+unfolding leader
+led-none = record { first = refl; has = refl }
+
+-- who is alone leads
+leader-one : (table : List (List Bool)) → leader table 1 ≡ 0
+unfolding leader
+leader-one table = rw (le-ltb (votes (getD table 0 [])) (votes (getD table 0 [])) (omega arith), leader)
+
+-- the next replica leads if it has more votes; if it has not, who led leads on
+pub led-new : {table : List (List Bool)} {best top i : ℕ} → Led table best top i → {v : ℕ} → v ≡ votes (getD table i []) → top < v
+    → Counted table i v i
+unfolding leader
+led-new {table} {i = zero} l e m = record { first = sym (leader-one table); has = e }
+led-new {table} {i = suc i} l e m = record { first = sym (rw (lt-ltb _ _ (rw (l .has, l .first, e) at m), leader)); has = e }
+
+pub led-old : {table : List (List Bool)} {best top i : ℕ} → Led table best top i → {v : ℕ} → v ≡ votes (getD table i []) → v ≤ top
+    → Counted table best top i
+unfolding leader
+led-old {table} {i = zero} l e m =
+    let none : _≡_ {A = ℕ} _ 0 = l .first in
+    rw none record { first = sym (leader-one table); has = omega (arith, e, l .has) }
+led-old {table} {i = suc i} l e m =
+    record { first = sym (rw (le-ltb _ _ (rw (l .has, l .first, e) at m), leader) (sym (l .first))); has = l .has }
+
+module _ {table : List (List Bool)} {best top i : ℕ} (c : Counted table best top i) where
+  pub led-more : Led table best top (i + 1)
+  led-more = rw add-one record { first = c .first; has = c .has }
+
+  -- all k are counted; of none the first leads
+  pub led-all : {k : ℕ} → k ≤ i + 1 → i ≤ k - 1 → (best ≡ leader table k) × (best ≤ k - 1)
+  led-all {k} h l = let e = go k h l in (e, omega (arith, leader-le table k))
+    where
+      go : (k : ℕ) → k ≤ i + 1 → i ≤ k - 1 → best ≡ leader table k
+      go zero h l = let z : i ≡ 0 = omega arith in c .first ∙ rw z (leader-one table ∙ sym (leader-none table))
+      go (suc k) h l = let z : i ≡ k = omega arith in rw z at c .first

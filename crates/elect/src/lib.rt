@@ -38,20 +38,23 @@ pub fn winner(table: [[bool; 16]; 16], replicas: usize) -> Elected
 {
     let last = least(replicas, MOST);
     let mut best: usize = 0;
-    let mut top = digits(table[0], 1, MOST);
-    let mut i: usize = 1;
-    while i < last {
+    let mut top: u32 = 0;
+    let mut i: usize = 0;
+    // Tested at the end: without replicas the first one leads, as in the definition.
+    loop {
         let votes = digits(table[i], 1, MOST);
         if top < votes {
             best = i;
             top = votes;
         }
         i += 1;
-    }
-    Elected {
-        replica: best,
-        count: top,
-        mask: digits(table[best], 2, last),
+        if last <= i {
+            return Elected {
+                replica: best,
+                count: top,
+                mask: digits(table[best], 2, last),
+            };
+        }
     }
 }
 
