@@ -7,7 +7,7 @@ ghost use Rattle.search.specs.Tabulate.{tabulate};
 ghost use Rattle.elect.specs.Leader.{most, digits, electedOf, instead};
 
 // All replicas of a table.
-const MOST: usize = 16;
+pub const MOST: usize = 16;
 
 // A replica with most votes, how many these are, and whose.
 pub struct Elected {

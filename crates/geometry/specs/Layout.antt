@@ -3,9 +3,9 @@
 -- No rule here needs a slot size or a region length to be a power of two.
 use Prim.Native.Nat.{ℕ, zero, suc, _+_, _*_, _/_, _%_, _^_}
 use mathlib.Core.Bool.{cond}
-use lib.Dec.{leb, ltb, eqb}
+use lib.Dec.{ltb, eqb}
 use Rattle.search.specs.First.{first}
-use Rattle.sizes.specs.Sizes.{usualSize}
+use Rattle.sizes.specs.Sizes.{usualSize, classAmong}
 pub use Rattle.sizes.specs.Sizes.{classes, longestSlot}
 use Rattle.geometry.specs.declared.Layout.{Layout}
 use Rattle.geometry.specs.declared.Location.{Location}
@@ -39,9 +39,9 @@ slotSize G c = usualSize c
 abbrev pub slots : Layout → ℕ → ℕ
 slots G c = G .region / slotSize G c
 
--- the class of a size: the first whose slots hold it; `classes` where none does
+-- the class of a size
 abbrev pub classOf : Layout → ℕ → ℕ
-classOf G size = first (λ c. leb size (slotSize G c)) 0 classes
+classOf G size = classAmong (slotSize G) size
 
 -- where a slot starts, in the heap
 abbrev pub slotStart : Layout → ℕ → ℕ → ℕ

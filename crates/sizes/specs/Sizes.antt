@@ -16,6 +16,9 @@ usualSize c = elim (ltb c classes) [ true ↦ 8 * 2 ^ c | false ↦ 0 ]
 abbrev pub longestSlot : ℕ
 longestSlot = 16_384
 
--- the class of a size among them: the first whose slots hold it; `classes` where none does
+-- the class of a size among slot sizes: the first whose slots hold it; `classes` where none does
+abbrev pub classAmong : (ℕ → ℕ) → ℕ → ℕ
+classAmong slotSize size = first (λ c. leb size (slotSize c)) 0 classes
+
 abbrev pub usualClass : ℕ → ℕ
-usualClass size = first (λ c. leb size (usualSize c)) 0 classes
+usualClass size = classAmong usualSize size

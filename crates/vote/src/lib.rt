@@ -3,6 +3,7 @@ mod compare;
 
 use answer::Refusal;
 use elect::Elected;
+use elect::MOST;
 ghost use mathlib.Core.Path.{_≡_};
 ghost use Prim.Native.Nat.{_≤_, _<_};
 ghost use lib.ListN.{length};
@@ -12,8 +13,6 @@ ghost use Rattle.vote.specs.Decide.{tally, tallyOf, outputAfter, NamesWi
 ghost use Rattle.vote.specs.Groups.{rowOf, Placed, winnerOf, tallied};
 
 const FEWEST_REPLICAS: usize = 3;
-
-const MOST_REPLICAS: usize = 16;
 
 const LONGEST_BLOCK: usize = 4096;
 
@@ -37,7 +36,7 @@ fn is_invalid(blocks_len: usize, replicas: usize, block_len: usize, output_len: 
     ensures { λ r. ⌜ r ≡ invalid «blocks_len» replicas «block_len» «output_len» ⌝ }
 {
     if (replicas < FEWEST_REPLICAS)
-        | (MOST_REPLICAS < replicas)
+        | (MOST < replicas)
         | (block_len < 1)
         | (LONGEST_BLOCK < block_len)
     {
