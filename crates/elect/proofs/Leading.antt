@@ -46,7 +46,7 @@ abbrev pub topVotes : List (List Bool) → ℕ → ℕ → ℕ
 topVotes table best zero = 0
 topVotes table best (suc i) = votes (getD table best [])
 
--- the leader of the first i of k replicas, with its votes
+-- the leader of the first i replicas, with its votes
 pub record Led (table : List (List Bool)) (best top i : ℕ) : Type 0 where
   pub first : best ≡ leader table i
   pub has : top ≡ topVotes table best i
