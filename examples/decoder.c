@@ -164,6 +164,6 @@ int main(int count, char **arguments)
         fprintf(stderr, "vote: %s\n", poheldu_name(v.number));
         return 1;
     }
-    printf("%u of %d copies agree (mask %u)\n%s", v.value, COPIES, v.mask, agreed);
+    printf("%u of %d copies agree (mask %u), the first is copy %u\n%s", v.value, COPIES, v.mask, v.replica, agreed);
     return 0;
 }

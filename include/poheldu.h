@@ -237,8 +237,9 @@ typedef struct {
 } poheldu_slot;
 
 /*
- * number as above; mask: bit r for each winning replica r; value: how many they are; replica: one
- * of them. All 0 but the number on refusal.
+ * number as above; mask: bit r for each winning replica r; value: how many they are; replica: the
+ * lowest-numbered of them, so that a display that names a winner does not jump between equal ones.
+ * All 0 but the number on refusal.
  */
 typedef struct {
     uint32_t number, mask, value, replica;

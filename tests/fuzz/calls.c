@@ -7,7 +7,7 @@
 #include <stdlib.h>
 #include <string.h>
 
-enum { NUMBERS = POHELDU_LIST_TOO_SHORT + 1, OPERATIONS = 7, CLASSES = 12, REPLICAS = 16 };
+enum { NUMBERS = POHELDU_LIST_TOO_SHORT + 1, OPERATIONS = 7, CLASSES = 12 };
 
 /* Inspections that are told apart: by what they list, by what their list lacks, and those refused for a count. */
 enum { NOTHING, WITH_ROOM, JUST_ENOUGH, ONE_TOO_FEW, FEWER, CORRUPT, INSPECTIONS };
@@ -29,6 +29,7 @@ static struct {
     uint64_t inspected[INSPECTIONS];
     uint64_t seeds[SEEDS]; /* openings of right lengths */
     uint64_t lookups[LOOKUPS];
+    uint64_t named[2]; /* served votes that name replica 0, and another one */
 } seen;
 
 /* ---- differences */
@@ -89,19 +90,14 @@ static void require_same_part(poheldu_part ours, poheldu_part theirs, buffers le
     stop(lent);
 }
 
-/* Which winner a served vote names is open; all else is fixed. */
-static bool names_a_winner(poheldu_verdict v)
-{
-    return v.number == POHELDU_SERVED ? v.replica < REPLICAS && (v.mask >> v.replica & 1) == 1 : v.replica == 0;
-}
-
 static void require_same_verdict(poheldu_verdict ours, poheldu_verdict theirs, buffers lent)
 {
-    if (ours.number == theirs.number && ours.mask == theirs.mask && ours.value == theirs.value && names_a_winner(ours) && all_equal(lent))
+    if (ours.number == theirs.number && ours.mask == theirs.mask && ours.value == theirs.value && ours.replica == theirs.replica && all_equal(lent))
         return;
     fprintf(stderr, "difference at a vote: library answers %" PRIu32 ", mask %" PRIx32 ", value %" PRIu32 ", replica %" PRIu32, ours.number,
             ours.mask, ours.value, ours.replica);
-    fprintf(stderr, "; second implementation %" PRIu32 ", mask %" PRIx32 ", value %" PRIu32 "\n", theirs.number, theirs.mask, theirs.value);
+    fprintf(stderr, "; second implementation %" PRIu32 ", mask %" PRIx32 ", value %" PRIu32 ", replica %" PRIu32 "\n", theirs.number, theirs.mask,
+            theirs.value, theirs.replica);
     stop(lent);
 }
 
@@ -199,6 +195,8 @@ bool calls_saw_all(void)
         all = all && seen.seeds[i] > 0;
     for (int i = 0; i < LOOKUPS; i++)
         all = all && seen.lookups[i] > 0;
+    for (int i = 0; i < 2; i++)
+        all = all && seen.named[i] > 0;
     return all;
 }
 
@@ -232,6 +230,7 @@ void calls_report(void)
             seen.lookups[NUMBERED], seen.lookups[NOT_NUMBERED]);
     fprintf(stderr, "; at a slot's start: %" PRIu64 ", further on: %" PRIu64 ", in none: %" PRIu64 "\n", seen.lookups[AT_START],
             seen.lookups[FURTHER_ON], seen.lookups[IN_NONE]);
+    fprintf(stderr, "fuzz: votes that name replica 0: %" PRIu64 ", another one: %" PRIu64 "\n", seen.named[0], seen.named[1]);
     fprintf(stderr, "fuzz: %" PRIu64 " calls, %" PRIu64 " of them requests\n", calls, seen.requests);
 }
 
@@ -306,6 +305,8 @@ void call_vote(const twin *blocks, size_t replicas, size_t block_len, const twin
     const poheldu_verdict theirs = reference_vote(twin_theirs(blocks), blocks->len, replicas, block_len, twin_theirs(output), output->len);
     require_same_verdict(ours, theirs, BUFFERS(blocks, output));
     seen.numbers[ours.number]++;
+    if (ours.number == POHELDU_SERVED)
+        seen.named[ours.replica > 0]++;
 }
 
 void call_metadata_length(size_t heap_len)

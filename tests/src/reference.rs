@@ -71,7 +71,7 @@ impl Part {
     }
 }
 
-/// What `vote` answers; `value` counts the winners, `replica` is one of them.
+/// What `vote` answers; `value` counts the winners, `replica` is the lowest.
 #[derive(Clone, Copy, Debug, PartialEq, Eq)]
 #[repr(C)]
 pub struct Verdict {
@@ -1056,11 +1056,20 @@ mod tests {
         assert_eq!(Opened::open(1, 1).run(1, 49_152, 0, &[]), refused(8));
     }
 
+    fn won(mask: u32, value: u32, replica: u32) -> Verdict {
+        Verdict {
+            number: 0,
+            mask,
+            value,
+            replica,
+        }
+    }
+
     #[test]
     fn vote_of_two_in_three() {
         let mut output = [9, 9];
         let verdict = vote(&[0x41, 0x42, 0x41], 3, 1, &mut output);
-        assert_eq!((verdict.number, verdict.mask, verdict.value), (0, 5, 2));
+        assert_eq!(verdict, won(5, 2, 0));
         assert_eq!(output, [0x41, 9]);
     }
 
@@ -1068,8 +1077,20 @@ mod tests {
     fn vote_with_a_tie() {
         let mut output = [9];
         let verdict = vote(&[0x42, 0x41, 0x41, 0x42], 4, 1, &mut output);
-        assert_eq!((verdict.number, verdict.mask, verdict.value), (0, 9, 2));
+        assert_eq!(verdict, won(9, 2, 0));
         assert_eq!(output, [0x42]);
+    }
+
+    #[test]
+    fn vote_names_the_lowest_winner() {
+        for (blocks, expected) in [
+            (&b"baa"[..], won(6, 2, 1)),
+            (b"xbaab", won(18, 2, 1)),
+            (b"bbaaa", won(28, 3, 2)),
+            (b"abcdefghijklmnoo", won(3 << 14, 2, 14)),
+        ] {
+            assert_eq!(vote(blocks, blocks.len(), 1, &mut [0]), expected);
+        }
     }
 
     #[test]

@@ -9,7 +9,7 @@ ghost use Rattle.rules.specs.Open.{setup};
 ghost use Rattle.rules.specs.Serve.{lentWith};
 ghost use Rattle.rules.specs.Call.{serve, reading, opening};
 ghost use Rattle.rules.specs.Inspect.{inspection};
-ghost use Rattle.vote.specs.Decide.{decide, tally, outputAfter, NamesWinner};
+ghost use Rattle.vote.specs.Decide.{decide, tally, outputAfter};
 ghost use Rattle.capi.specs.Numbers.{replyIn, tallyIn, readPart, metadataFor, interface};
 ghost use Rattle.capi.specs.Slots.{nthSlot, findSlot, countSlots, storedPattern};
 use answer::Answer;
@@ -143,9 +143,7 @@ pub extern "C" fn poheldu_vote(
 ) -> PohelduVerdict
     ensures { λ r.
         let d = decide (now (blocks .entry)) replicas «block_len» (length (now (output .entry))) in
-        ⌜ (tallyIn r ≡ tally d (r .replica)) × (now (output .exit) ≡ outputAfter d (now (output .entry))) ⌝ }
-    // Which of the winners is named is open: the rules let it be any one.
-    ensures { λ r. ⌜ NamesWinner (tallyIn r) ⌝ }
+        ⌜ (tallyIn r ≡ tally d) × (now (output .exit) ≡ outputAfter d (now (output .entry))) ⌝ }
 {
     match vote::vote(blocks, replicas, block_len, output) {
         Verdict::Agreed {

@@ -1,15 +1,17 @@
 -- The leader of a table, one replica after another.
 use Prim.Native.Nat.{ℕ, zero, suc, _+_, _-_, _≤_, _<_}
 use native.Mathlib.Numerals.{add-one}
-use native.Mathlib.Decide.{ℕ-discrete}
+use native.Mathlib.Decide.{ℕ-discrete, decLt}
 use native.Mathlib.Omega.{arith}
-use mathlib.Core.Path.{_≡_, refl, sym, _∙_}
+use mathlib.Core.Path.{_≡_, refl, sym, ap, _∙_}
 use mathlib.Core.Bool.{Bool, true, false}
 use mathlib.Core.List.{List, []}
 use lib.ListN.{getD}
 use lib.Dec.{ltb}
-use borrow.Author.Tests.{lt-ltb, le-ltb}
-use Rattle.elect.specs.Leader.{leader, votes}
+use borrow.Author.Tests.{lt-ltb, le-ltb, ltb-true, ltb-false}
+use Rattle.search.specs.First.{first}
+use Rattle.search.proofs.First.{first-le, first-passes}
+use Rattle.elect.specs.Leader.{most, leader, votes, lowestOf}
 
 -- the leader is one of those that it leads
 pub leader-le : (table : List (List Bool)) (n : ℕ) → leader table n ≤ n - 1
@@ -21,6 +23,52 @@ leader-le table (suc n) =
     go : (t : Bool) → leader table n ≤ n - 1 → elim t [ true ↦ n | false ↦ leader table n ] ≤ suc n - 1
     go true rest = omega arith
     go false rest = omega arith
+
+module _ (table : List (List Bool)) where
+  abbrev votesOf : ℕ → ℕ
+  votesOf i = votes (getD table i [])
+
+  -- replica i has no more votes than the best, and fewer where it comes before it
+  abbrev Below : ℕ → ℕ → Type 0
+  Below best i = (votesOf i ≤ votesOf best) × (i < best → votesOf i < votesOf best)
+
+  below-leader : (n i : ℕ) → i < n → Below (leader table n) i
+  unfolding leader
+  below-leader zero i h = absurd (omega arith)
+  below-leader (suc n) i h = go (ltb (votesOf (leader table n)) (votesOf n)) refl (below-leader n i)
+    where
+      go : (t : Bool) → ltb (votesOf (leader table n)) (votesOf n) ≡ t → (i < n → Below (leader table n) i)
+          → Below (elim t [ true ↦ n | false ↦ leader table n ]) i
+      go true e rest = elim (ℕ-discrete i n) [
+        | yes q ↦ rw q (omega arith, λ l. absurd (omega arith))
+        | no q ↦
+            let more : votesOf (leader table n) < votesOf n = ltb-true _ _ e in
+            let less : votesOf i < votesOf n = omega (arith, rest (omega arith) .0) in
+            (omega arith, λ l. less)
+      ]
+      go false e rest = elim (ℕ-discrete i n) [
+        | yes q ↦ rw q (ltb-false _ _ e, λ l. absurd (omega (arith, leader-le table n)))
+        | no q ↦ rest (omega arith)
+      ]
+
+  -- where all in its row have that row, and it is one of them, the leader is the lowest of them
+  pub leader-lowest : let best = leader table most in
+      let row = getD table best [] in
+      getD row best false ≡ true
+      → ((r : ℕ) → r < most → getD row r false ≡ true → getD table r [] ≡ row)
+      → lowestOf row ≡ best
+  leader-lowest own same =
+      let best : ℕ = leader table most in
+      let in-row : ℕ → Bool = λ r. getD (getD table best []) r false in
+      let low : ℕ = first in-row 0 most in
+      let few : best < most = omega (arith, leader-le table most) in
+      let upto : low ≤ best = first-le in-row 0 most best (omega arith) own in
+      let also : in-row low ≡ true = first-passes in-row 0 most (omega arith) in
+      let as-many : votesOf low ≡ votesOf best = ap votes (same low (omega arith) also) in
+      elim (decLt low best) [
+        | yes l ↦ absurd (omega (arith, below-leader most low (omega arith) .1 l))
+        | no l ↦ omega arith
+      ]
 
 -- replicas without votes do not lead after others
 pub leader-front : (table : List (List Bool)) (k n : ℕ) → 0 < k → k ≤ n

@@ -1,6 +1,6 @@
 -- Rows as digits.
-use Prim.Native.Nat.{ℕ, zero, suc, _+_, _*_, _/_, _%_, _^_, _-_, _≤_, _<_}
-use native.Mathlib.Nat.{mul-zero, mul-le-mul-right, pow-suc, pow-succ', div-div-eq-div-mul, zero-div}
+use Prim.Native.Nat.{ℕ, zero, suc, _+_, _*_, _^_, _-_, _≤_, _<_}
+use native.Mathlib.Nat.{mul-zero, mul-le-mul-right, pow-suc}
 use native.Mathlib.Omega.{arith}
 use mathlib.Core.Path.{_≡_, refl, _∙_}
 use mathlib.Core.Bool.{Bool, true, false, cond}
@@ -9,7 +9,7 @@ use lib.ListN.{length, getD, take, drop, length-take, length-drop, drop-of-lengt
 use lib.Seq.{drop-cons, getD-take}
 use lib.Pow.{pow-mono}
 use mir.Val.{boolByte}
-use Rattle.elect.specs.Leader.{digits, maskOf}
+use Rattle.elect.specs.Leader.{digits}
 
 -- a digit is 0 or 1, as the code makes it
 pub digit : (b : Bool) → (boolByte b ≡ cond b 1 0) × (cond b 1 0 ≤ 1)
@@ -24,15 +24,6 @@ digits-lt base (b ∷ row) h =
     let rest : digits base row < 2 ^ length row = digits-lt base row h in
     let twice : base * digits base row ≤ 2 * digits base row = mul-le-mul-right (digits base row) h in
     rw pow-suc (omega (arith, digit b))
-
--- bit r of the mask says whether replica r is in the row
-pub mask-bit : (row : List Bool) (r : ℕ) → maskOf row / 2 ^ r % 2 ≡ cond (getD row r false) 1 0
-unfolding digits
-mask-bit [] r = rw zero-div
-mask-bit (b ∷ row) zero = omega (arith, digit b)
-mask-bit (b ∷ row) (suc r) =
-    let half : (cond b 1 0 + 2 * digits 2 row) / 2 ≡ digits 2 row = omega (arith, digit b) in
-    rw (pow-succ', ← div-div-eq-div-mul, half) (mask-bit row r)
 
 -- a row that says yes to none, and one that does so after the first n
 pub digits-none : (base : ℕ) (row : List Bool) → ((j : ℕ) → getD row j false ≡ false) → digits base row ≡ 0

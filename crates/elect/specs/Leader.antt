@@ -4,6 +4,7 @@ use mathlib.Core.Bool.{Bool, true, false, cond}
 use mathlib.Core.List.{List, [], _∷_}
 use lib.ListN.{getD, take}
 use lib.Dec.{ltb, eqb}
+use Rattle.search.specs.First.{first}
 use Rattle.elect.specs.declared.Elected.{Elected}
 
 -- replicas of a table
@@ -21,6 +22,10 @@ votes row = digits 1 row
 
 abbrev pub maskOf : List Bool → ℕ
 maskOf row = digits 2 row
+
+-- the lowest-numbered of them; of none, the number after the last
+abbrev pub lowestOf : List Bool → ℕ
+lowestOf row = first (λ r. getD row r false) 0 most
 
 -- of the first n replicas, the lowest-numbered among those with most votes
 unfoldable pub leader : List (List Bool) → ℕ → ℕ

@@ -9,9 +9,9 @@ ghost use Rattle.elect.specs.Leader.{most, digits, electedOf, instead};
 // All replicas of a table.
 pub const MOST: usize = 16;
 
-// A replica with most votes, how many these are, and whose.
+// The lowest-numbered replica with most votes, how many these are, and whose.
 pub struct Elected {
-    pub replica: usize,
+    pub replica: u32,
     pub count: u32,
     pub mask: u32,
 }
@@ -50,7 +50,7 @@ pub fn winner(table: [[bool; 16]; 16], replicas: usize) -> Elected
         i += 1;
         if last <= i {
             return Elected {
-                replica: best,
+                replica: best as u32,
                 count: top,
                 mask: digits(table[best], 2, last),
             };

@@ -63,9 +63,9 @@ computes = refl
 
 further-computes : allAlike further ≡ true
 unfolding allAlike further lastSet firstSet atCapacity afterSeven letters kept nearHalf classFive onlySlotSet counting
-    shownWith shownThere eachAbove answerToOpening clear answerTo leftAfter start oneObject copying placeOf showing numbers voting example
-    indexOf indexAfter first isOneOf slotSize bitmapAt putByte nextClear parse lengths admit probe allocate free space
-    remaining copy read serving opening alike tabulate digits leader count decide
+    shownWith shownThere eachAbove answerToOpening clear answerTo leftAfter start oneObject copying bytesVoted placeOf
+    showing numbers voting example indexOf indexAfter first isOneOf slotSize bitmapAt putByte nextClear parse lengths
+    admit probe allocate free space remaining copy read serving opening alike tabulate digits leader count decide
 further-computes = refl
 
 canaries-compute : allAlike canaries ≡ true

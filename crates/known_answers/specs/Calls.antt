@@ -92,10 +92,10 @@ inspecting heap m list =
 
 -- ---- votes
 
--- a vote of k replicas on blocks of some size: the answer's number, mask and value, and then the output, which was FF
--- hex throughout
+-- a vote of k replicas on blocks of some size: the answer's number, mask, value and replica, and then the output, which
+-- was FF hex throughout
 unfoldable pub voting : List ℕ → ℕ → ℕ → ℕ → List ℕ
 voting blocks k size outputBytes =
     let d : Decision = decide blocks k size outputBytes in
-    let t : Tally = tally d 0 in
-    t .number ∷ t .mask ∷ t .value ∷ outputAfter d (replicate outputBytes 0xff)
+    let t : Tally = tally d in
+    t .number ∷ t .mask ∷ t .value ∷ t .replica ∷ outputAfter d (replicate outputBytes 0xff)

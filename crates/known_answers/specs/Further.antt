@@ -1,6 +1,6 @@
 -- Further worked examples: limits, edges, and metadata that no opening made. What is right was worked out from the
 -- paper, apart from the definitions.
-use Prim.Native.Nat.{ℕ, _+_, _*_, _/_, _^_}
+use Prim.Native.Nat.{ℕ, _+_, _*_, _/_, _^_, min}
 use mathlib.Core.List.{List, [], _∷_, _++_}
 use lib.ListN.{take, drop, set, replicate}
 use Rattle.search.specs.Tabulate.{tabulate}
@@ -11,7 +11,7 @@ use Rattle.rules.specs.Serve.{lent}
 use Rattle.rules.specs.Call.{serve}
 use Rattle.known_answers.specs.Calls.{Row, example, heapOf, answerToOpening, clear, toAllocate, toFree, toMeasure, toCopy}
 use Rattle.known_answers.specs.Calls.{toCopyString, toCopyPadded, toRead, answerTo, leftAfter, showing, voting}
-use Rattle.known_answers.specs.Table.{copying}
+use Rattle.known_answers.specs.Table.{copying, bytesVoted}
 
 -- ---- regions of 4,096 bytes: class 4 has 32 slots of 128 bytes, its bitmap is bytes 180 to 183 and its count byte 24
 
@@ -216,15 +216,20 @@ further =
     ∷ example (answerToOpening 1_024 94 0x8c9ffffe 0x8c9ffffd) (0 ∷ 0 ∷ [])
     ∷ example (answerToOpening 1_024 94 0xd2effffd 0xd2effffe) (0 ∷ 0 ∷ [])
     -- votes: 2 and 17 replicas, blocks of 0 and 4,097 bytes; 3 and 16 replicas, blocks of 4,096 bytes
-    ∷ example (voting (replicate 2 0x41) 2 1 1) (11 ∷ 0 ∷ 0 ∷ 0xff ∷ [])
-    ∷ example (voting (replicate 17 0x41) 17 1 1) (11 ∷ 0 ∷ 0 ∷ 0xff ∷ [])
-    ∷ example (voting [] 3 0 1) (11 ∷ 0 ∷ 0 ∷ 0xff ∷ [])
-    ∷ example (voting (replicate (3 * 4_097) 0x41) 3 4_097 4_097) (11 ∷ 0 ∷ 0 ∷ replicate 4_097 0xff)
-    ∷ example (voting (replicate 3 0x41) 3 1 1) (0 ∷ 7 ∷ 3 ∷ 0x41 ∷ [])
-    ∷ example (voting (replicate 16 0x41) 16 1 1) (0 ∷ 65_535 ∷ 16 ∷ 0x41 ∷ [])
-    ∷ example (voting (replicate (3 * 4_096) 0x41) 3 4_096 4_096) (0 ∷ 7 ∷ 3 ∷ replicate 4_096 0x41)
+    ∷ example (voting (replicate 2 0x41) 2 1 1) (11 ∷ 0 ∷ 0 ∷ 0 ∷ 0xff ∷ [])
+    ∷ example (voting (replicate 17 0x41) 17 1 1) (11 ∷ 0 ∷ 0 ∷ 0 ∷ 0xff ∷ [])
+    ∷ example (voting [] 3 0 1) (11 ∷ 0 ∷ 0 ∷ 0 ∷ 0xff ∷ [])
+    ∷ example (voting (replicate (3 * 4_097) 0x41) 3 4_097 4_097) (11 ∷ 0 ∷ 0 ∷ 0 ∷ replicate 4_097 0xff)
+    ∷ example (voting (replicate 3 0x41) 3 1 1) (0 ∷ 7 ∷ 3 ∷ 0 ∷ 0x41 ∷ [])
+    ∷ example (voting (replicate 16 0x41) 16 1 1) (0 ∷ 65_535 ∷ 16 ∷ 0 ∷ 0x41 ∷ [])
+    ∷ example (voting (replicate (3 * 4_096) 0x41) 3 4_096 4_096) (0 ∷ 7 ∷ 3 ∷ 0 ∷ replicate 4_096 0x41)
     -- a buffer that is not all blocks, an output a byte too short, and one a byte longer
-    ∷ example (voting (replicate 7 0x41) 3 2 2) (11 ∷ 0 ∷ 0 ∷ 0xff ∷ 0xff ∷ [])
-    ∷ example (voting (replicate 6 0x41) 3 2 1) (11 ∷ 0 ∷ 0 ∷ 0xff ∷ [])
-    ∷ example (voting (replicate 6 0x41) 3 2 3) (0 ∷ 7 ∷ 3 ∷ 0x41 ∷ 0x41 ∷ 0xff ∷ [])
+    ∷ example (voting (replicate 7 0x41) 3 2 2) (11 ∷ 0 ∷ 0 ∷ 0 ∷ 0xff ∷ 0xff ∷ [])
+    ∷ example (voting (replicate 6 0x41) 3 2 1) (11 ∷ 0 ∷ 0 ∷ 0 ∷ 0xff ∷ [])
+    ∷ example (voting (replicate 6 0x41) 3 2 3) (0 ∷ 7 ∷ 3 ∷ 0 ∷ 0x41 ∷ 0x41 ∷ 0xff ∷ [])
+    -- the lowest winner: after one that lost, after two that lost, of two contents that tie, and the last but one of 16
+    ∷ example (bytesVoted (0x42 ∷ 0x41 ∷ 0x41 ∷ [])) (0 ∷ 6 ∷ 2 ∷ 1 ∷ 0x41 ∷ [])
+    ∷ example (bytesVoted (0x42 ∷ 0x42 ∷ 0x41 ∷ 0x41 ∷ 0x41 ∷ [])) (0 ∷ 28 ∷ 3 ∷ 2 ∷ 0x41 ∷ [])
+    ∷ example (bytesVoted (0x43 ∷ 0x42 ∷ 0x41 ∷ 0x41 ∷ 0x42 ∷ [])) (0 ∷ 18 ∷ 2 ∷ 1 ∷ 0x42 ∷ [])
+    ∷ example (bytesVoted (tabulate (λ r. min r 14) 0 16)) (0 ∷ 49_152 ∷ 2 ∷ 14 ∷ 14 ∷ [])
     ∷ []

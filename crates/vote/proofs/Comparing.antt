@@ -52,7 +52,7 @@ module _ (voting : List Bool) (block : ℕ → List ℕ) where
       rw (alike-equal (block i) (block j) same, alike-self, and-comm (getD voting j false) (getD voting i false), both)
 
   -- who agrees has the same row
-  agree-same : (i j r : ℕ) → agree voting block i j ≡ true → agree voting block i r ≡ agree voting block j r
+  pub agree-same : (i j r : ℕ) → agree voting block i j ≡ true → agree voting block i r ≡ agree voting block j r
   agree-same i j r h =
       let (both, same) = and-eq-true-iff (getD voting i false && getD voting j false) (alike (block i) (block j)) .0 h in
       let (p, q) = and-eq-true-iff (getD voting i false) (getD voting j false) .0 both in

@@ -3,9 +3,9 @@ use Prim.Native.Nat.{ℕ, _+_, _*_, _≤_, _<_, min}
 use native.Mathlib.Nat.{suc-mul, mul-le-mul-right}
 use native.Mathlib.Decide.{decLt}
 use native.Mathlib.Omega.{arith}
-use mathlib.Core.Path.{_≡_, refl, _∙_}
+use mathlib.Core.Path.{_≡_, refl, sym, _∙_}
 use mathlib.Core.Logic.{_↔_}
-use mathlib.Core.Bool.{Bool, true, false, cond, true≢false, _||_}
+use mathlib.Core.Bool.{Bool, true, false, true≢false, _||_}
 use mathlib.Core.List.{List, [], _++_}
 use lib.ListN.{length, getD, take, drop, length-take, length-drop, List·getD-eq-default}
 use lib.Seq.{take-all}
@@ -13,17 +13,17 @@ use lib.Dec.{ltb}
 use borrow.Author.Tests.{lt-ltb, le-ltb, ltb-true, ltb-false, eqb-true, not-false}
 use Rattle.answer.specs.declared.Refusal.the-variants.{NoAgreement}
 use Rattle.search.specs.Tabulate.{tabulate}
-use Rattle.search.proofs.Tabulate.{tabulate-at, tabulate-length}
+use Rattle.search.proofs.Tabulate.{tabulate-at, tabulate-length, tabulate-same}
 use Rattle.writing.specs.Overwrite.{overwrite}
 use Rattle.vote.specs.declared.Places.{Places}
 use Rattle.elect.specs.declared.Elected.{Elected}
-use Rattle.elect.specs.Leader.{most, votes, maskOf, leader, electedOf}
-use Rattle.elect.proofs.Rows.{digits-none, digits-front, mask-bit}
-use Rattle.elect.proofs.Leading.{leader-le, leader-front}
+use Rattle.elect.specs.Leader.{most, votes, maskOf, lowestOf, leader, electedOf}
+use Rattle.elect.proofs.Rows.{digits-none, digits-front}
+use Rattle.elect.proofs.Leading.{leader-le, leader-front, leader-lowest}
 use Rattle.vote.specs.Groups.{Placed, Countable, winnerOf, tallied}
 use Rattle.vote.specs.Decide.{firstOf, blockIn, agree, row, agreements}
-use Rattle.vote.specs.Decide.{invalid, won, lost, count, sideBySide, tally, NamesWinner}
-use Rattle.vote.proofs.Comparing.{out-agrees, agrees-out, agree-self}
+use Rattle.vote.specs.Decide.{invalid, won, lost, count, sideBySide, tally}
+use Rattle.vote.proofs.Comparing.{out-agrees, agrees-out, agree-self, agree-same}
 
 -- ---- the table
 
@@ -34,16 +34,43 @@ says-no f j e = elim (decLt j 16) [
   | no l ↦ List·getD-eq-default (tabulate f 0 16) false (omega (arith, tabulate-length f 0 16))
 ]
 
-module _ (voting : List Bool) (block : ℕ → List ℕ) (i : ℕ) (few : i < 16) where
-  row-at : getD (agreements voting block) i [] ≡ row voting block i
-  row-at = tabulate-at (row voting block) [] 16 i few
+module _ (voting : List Bool) (block : ℕ → List ℕ) where
+  abbrev rowAt : ℕ → List Bool
+  rowAt i = getD (agreements voting block) i []
+
+  row-at : (i : ℕ) → i < 16 → rowAt i ≡ row voting block i
+  row-at i few = tabulate-at (row voting block) [] 16 i few
 
   -- who does not vote has nobody in its row, and is in no row
-  row-out : getD voting i false ≡ false → (j : ℕ) → getD (getD (agreements voting block) i []) j false ≡ false
-  row-out e j = rw row-at (says-no (agree voting block i) j (out-agrees voting block i j e))
+  row-out : (i : ℕ) → i < 16 → getD voting i false ≡ false → (j : ℕ) → getD (rowAt i) j false ≡ false
+  row-out i few e j = rw (row-at i few) (says-no (agree voting block i) j (out-agrees voting block i j e))
 
-  out-row : (j : ℕ) → getD voting j false ≡ false → getD (getD (agreements voting block) i []) j false ≡ false
-  out-row j e = rw row-at (says-no (agree voting block i) j (agrees-out voting block i j e))
+  out-row : (i : ℕ) → i < 16 → (j : ℕ) → getD voting j false ≡ false → getD (rowAt i) j false ≡ false
+  out-row i few j e = rw (row-at i few) (says-no (agree voting block i) j (agrees-out voting block i j e))
+
+  -- who has a vote votes, and agrees with itself
+  row-own : (i : ℕ) → i < 16 → 1 ≤ votes (rowAt i) → getD (rowAt i) i false ≡ true
+  row-own i few h =
+      rw (row-at i few, tabulate-at (agree voting block i) false 16 i few, agree-self voting block i)
+      (go (getD voting i false) refl)
+    where
+      go : (t : Bool) → getD voting i false ≡ t → t ≡ true
+      go true e = refl
+      go false e = absurd (omega (arith, digits-none 1 (rowAt i) (row-out i few e)))
+
+  -- who is in a row has that row
+  row-same : (i : ℕ) → i < 16 → (j : ℕ) → j < 16 → getD (rowAt i) j false ≡ true → rowAt j ≡ rowAt i
+  row-same i few j l h =
+      let agrees : agree voting block i j ≡ true =
+      sym (tabulate-at (agree voting block i) false 16 j l) ∙ rw (row-at i few) at h in
+      rw (row-at i few, row-at j l) (tabulate-same _ _ 0 16 0 (λ r m n. sym (agree-same voting block i j r agrees)))
+
+  -- so the leader, if it has a vote, is the lowest of those in its row
+  row-lowest : let best = leader (agreements voting block) most in 1 ≤ votes (rowAt best) → lowestOf (rowAt best) ≡ best
+  row-lowest h =
+      let best : ℕ = leader (agreements voting block) most in
+      let few : best < 16 = omega (arith, leader-le (agreements voting block) most) in
+      leader-lowest (agreements voting block) (row-own best few h) (row-same best few)
 
 -- past the replicas nobody votes
 pub counted : {voting : List Bool} {outputs : List ℕ} {p : Places} → Placed voting outputs p
@@ -86,40 +113,19 @@ module _ (voting : List Bool) (block : ℕ → List ℕ) {w : Elected} (e : w �
   unfolding count
   count-won h = rw e (rw (le-ltb _ 2 (rw e at h), count))
 
-  -- the answer is the one that names it
-  pub count-tally : tallied w ≡ tally (count voting block) (tallied w .replica)
+  -- and it is the lowest of those who share it
+  low : 1 ≤ votes winners → lowestOf winners ≡ w .replica
+  low = rw e (row-lowest voting block)
+
+  -- the answer is that of the count
+  pub count-tally : tallied w ≡ tally (count voting block)
   count-tally = go (ltb (w .count) 2) refl
     where
-      go : (t : Bool) → ltb (w .count) 2 ≡ t → tallied w ≡ tally (count voting block) (tallied w .replica)
+      go : (t : Bool) → ltb (w .count) 2 ≡ t → tallied w ≡ tally (count voting block)
       go true q = rw (q, count-lost (ltb-true _ _ q))
       go false q =
           let has : (w .count ≡ votes winners) × (w .mask ≡ maskOf winners) = rw e (refl, refl) in
-          rw (q, count-won (ltb-false _ _ q), has .0, has .1)
-
-  -- it votes, and agrees with itself: its bit is set in the mask
-  pub count-named : w .replica < 16 → NamesWinner (tallied w)
-  count-named few = go (ltb (w .count) 2) refl
-    where
-      named : (t : Bool) → getD voting (w .replica) false ≡ t → 2 ≤ votes winners → _≡_ {A = ℕ} (cond t 1 0) 1
-      named true p h = refl
-      named false p h =
-          let none : votes winners ≡ 0 = digits-none 1 winners (row-out voting block (w .replica) few p) in
-          absurd (omega arith)
-
-      go : (t : Bool) → ltb (w .count) 2 ≡ t → NamesWinner (tallied w)
-      go true q = rw q (λ z. omega arith)
-      go false q =
-          let has : (w .count ≡ votes winners) × (w .mask ≡ maskOf winners) = rw e (refl, refl) in
-          let more : 2 ≤ votes winners = rw (has .0) at (ltb-false (w .count) 2 q) in
-          rw (
-            q,
-            has .1,
-            mask-bit,
-            row-at voting block (w .replica) few,
-            tabulate-at (agree voting block (w .replica)) false 16 (w .replica) few,
-            agree-self voting block (w .replica),
-          )
-          (λ z. named (getD voting (w .replica) false) refl more)
+          rw (q, count-won (ltb-false _ _ q), has .0, has .1, low (omega (arith, ltb-false)))
 
 -- its block is put to the front of an output
 pub count-put : (outputs output : List ℕ) (p : Places) (r : ℕ) → p .len ≤ length output

@@ -1,4 +1,3 @@
--- Laws of comparing, counting and the winner of a vote, and examples.
+-- Laws of comparing, counting and the winner of a vote.
 pub mod Comparing
 pub mod Decision
-pub mod Examples

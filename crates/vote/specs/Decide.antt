@@ -1,12 +1,11 @@
 -- The vote of replicas on a block of output.
-use Prim.Native.Nat.{ℕ, _+_, _*_, _/_, _%_, _^_}
-use mathlib.Core.Path.{_≡_}
+use Prim.Native.Nat.{ℕ, _+_, _*_}
 use mathlib.Core.Bool.{Bool, true, false, not, _&&_, _||_}
 use mathlib.Core.List.{List, [], _++_}
 use lib.ListN.{length, getD, take, drop}
 use lib.Dec.{ltb, eqb}
 use Rattle.alike.specs.Alike.{alike}
-use Rattle.elect.specs.Leader.{most, votes, maskOf, leader}
+use Rattle.elect.specs.Leader.{most, votes, maskOf, lowestOf, leader}
 use Rattle.search.specs.Tabulate.{tabulate}
 use Rattle.answer.specs.declared.Refusal.{Refusal}
 use Rattle.answer.specs.declared.Refusal.the-variants.{InvalidVote, NoAgreement}
@@ -88,21 +87,17 @@ decide blocks k size outputLength =
 
 -- ---- what the caller sees
 
--- the paper's answer: replica is the number of one of the winners
+-- the paper's answer: replica is the number of the lowest-numbered winner
 pub record Tally : Type 0 where
   pub number : ℕ
   pub mask : ℕ
   pub value : ℕ
   pub replica : ℕ
 
--- the answer that names a replica; on refusal all but the number is 0
-abbrev pub tally : Decision → ℕ → Tally
-tally (won row block) named = record { number = 0; mask = maskOf row; value = votes row; replica = named }
-tally (lost r) named = record { number = numberOf r; mask = 0; value = 0; replica = 0 }
-
--- the replica that a served answer names is a winner, any one: its bit is set in the mask
-abbrev pub NamesWinner : Tally → Type 0
-NamesWinner t = t .number ≡ 0 → t .mask / 2 ^ t .replica % 2 ≡ 1
+-- on refusal all but the number is 0
+abbrev pub tally : Decision → Tally
+tally (won row block) = record { number = 0; mask = maskOf row; value = votes row; replica = lowestOf row }
+tally (lost r) = record { number = numberOf r; mask = 0; value = 0; replica = 0 }
 
 -- the winning block at the front; further bytes are kept, and a refusal keeps all
 abbrev pub outputAfter : Decision → List ℕ → List ℕ
@@ -111,5 +106,5 @@ outputAfter (lost r) output = output
 
 -- the numbers of an answer
 abbrev pub tallyOf : Verdict → Tally
-tallyOf (Agreed mask count named) = record { number = 0; mask = mask; value = count; replica = named }
+tallyOf (Agreed mask count replica) = record { number = 0; mask = mask; value = count; replica = replica }
 tallyOf (Refused r) = record { number = numberOf r; mask = 0; value = 0; replica = 0 }

@@ -5,11 +5,11 @@ use answer::Refusal;
 use elect::Elected;
 use elect::MOST;
 ghost use mathlib.Core.Path.{_≡_};
-ghost use Prim.Native.Nat.{_≤_, _<_};
+ghost use Prim.Native.Nat.{_≤_};
 ghost use lib.ListN.{length};
 ghost use Rattle.elect.specs.Leader.{most};
 ghost use Rattle.vote.specs.Decide.{firstOf, blockIn, agreements, invalid, count, sideBySide, decide};
-ghost use Rattle.vote.specs.Decide.{tally, tallyOf, outputAfter, NamesWinner};
+ghost use Rattle.vote.specs.Decide.{tally, tallyOf, outputAfter};
 ghost use Rattle.vote.specs.Groups.{rowOf, Placed, winnerOf, tallied};
 
 const FEWEST_REPLICAS: usize = 3;
@@ -26,7 +26,7 @@ pub struct Places {
 }
 
 pub enum Verdict {
-    // The winning replicas as a mask (bit r for replica r), how many they are, and one of them.
+    // The winning replicas as a mask (bit r for replica r), how many they are, and the lowest-numbered of them.
     Agreed { mask: u32, count: u32, replica: u32 },
     Refused(Refusal),
 }
@@ -71,19 +71,17 @@ fn elected(outputs: &[u8], voting: u32, p: Places, output: &mut [u8]) -> Elected
     ensures { λ r.
         let block = blockIn (now (outputs .entry)) p in
         ⌜ (r ≡ winnerOf (agreements (rowOf voting) block))
-        × (r .replica < p .replicas)
         × (now (output .exit) ≡ outputAfter (count (rowOf voting) block) (now (output .entry))) ⌝ }
 {
     let winner = elect::winner(compare::agreements(outputs, voting, p), p.replicas);
     if winner.count < 2 {
         return winner;
     }
-    writing::write(output, compare::block(outputs, p, winner.replica));
+    writing::write(output, compare::block(outputs, p, winner.replica as usize));
     winner
 }
 
 fn answer(elected: Elected) -> Verdict
-    requires { ⌜ elected .replica < most ⌝ }
     ensures { λ r. ⌜ tallyOf r ≡ tallied elected ⌝ }
 {
     if elected.count < 2 {
@@ -92,7 +90,7 @@ fn answer(elected: Elected) -> Verdict
     Verdict::Agreed {
         mask: elected.mask,
         count: elected.count,
-        replica: elected.replica as u32,
+        replica: elected.replica,
     }
 }
 
@@ -100,9 +98,7 @@ fn answer(elected: Elected) -> Verdict
 pub fn vote(blocks: &[u8], replicas: usize, block_len: usize, output: &mut [u8]) -> Verdict
     ensures { λ r.
         let d = decide (now (blocks .entry)) replicas «block_len» (length (now (output .entry))) in
-        ⌜ (tallyOf r ≡ tally d (tallyOf r .replica)) × (now (output .exit) ≡ outputAfter d (now (output .entry))) ⌝ }
-    // Which of the winners is named is open: the rules let it be any one.
-    ensures { λ r. ⌜ NamesWinner (tallyOf r) ⌝ }
+        ⌜ (tallyOf r ≡ tally d) × (now (output .exit) ≡ outputAfter d (now (output .entry))) ⌝ }
 {
     if is_invalid(blocks.len(), replicas, block_len, output.len()) {
         return Verdict::Refused(Refusal::InvalidVote);

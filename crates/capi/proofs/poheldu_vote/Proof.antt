@@ -1,7 +1,5 @@
 -- `capi::poheldu_vote` meets its contract: the numbers are those of the verdict.
 use borrow.Author.Needs.{needs}
-use mathlib.Core.Path.{sym, _∙_}
-use Rattle.answer.proofs.Numbers.{refusal-number}
 use Rattle.capi.proofs.poheldu_vote.Statement.{statement}
 use Rattle.capi.proofs.poheldu_vote.Tie as tie
 
@@ -24,7 +22,7 @@ returns : tie.Need-returns
 returns c =
     let v = c .before .before .before .before .before .vote .ensures in
     let agreed = c .before .mask .given .1 in
-    ((rw agreed at (v .0 .0), v .0 .1), rw agreed at (v .1))
+    (rw agreed at (v .0), v .1)
 
 same-length-2 : tie.Need-same-length-2
 same-length-2 c = search needs
@@ -34,7 +32,7 @@ returns-2 c =
     let v = c .before .before .before .before .before .before .vote .ensures in
     let refusal = c .before .before .refusal .given in
     let number = c .number .ensures in
-    ((rw number (rw (refusal .1) at (v .0 .0)), v .0 .1), λ z. absurd (refusal-number (refusal .0 .0) (sym number ∙ z)))
+    (rw number (rw (refusal .1) at (v .0)), v .1)
 
 pub poheldu-vote-spec : {M : Type 1} → statement M
 poheldu-vote-spec =

@@ -49,6 +49,9 @@ digits-requires c κs = omega arith
 add-i : tie.Need-add-i Inv-loop μ-loop
 add-i c = omega arith
 
+cast-t14 : tie.Need-cast-t14 Inv-loop μ-loop
+cast-t14 c = omega (arith, leads c)
+
 mul-digits-2 : tie.Need-mul-digits-2 Inv-loop μ-loop
 mul-digits-2 c = omega (arith, leads c)
 
@@ -83,6 +86,7 @@ winner-spec =
     array-copy-out-digits
     digits-requires
     add-i
+    cast-t14
     mul-digits-2
     array-copy-out-digits-2
     digits-requires-2

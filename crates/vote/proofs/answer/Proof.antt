@@ -1,5 +1,4 @@
 -- `answer` meets its contract.
-use borrow.Author.Needs.{needs}
 use borrow.Author.Tests.{lt-ltb, le-ltb}
 use Rattle.vote.proofs.answer.Statement.{statement}
 use Rattle.vote.proofs.answer.Tie as tie
@@ -7,11 +6,8 @@ use Rattle.vote.proofs.answer.Tie as tie
 returns : tie.Need-returns
 returns c = rw (lt-ltb _ 2 (c .if1 .taken))
 
-cast-t4 : tie.Need-cast-t4
-cast-t4 c = search needs
-
 returns-2 : tie.Need-returns-2
-returns-2 c = rw (le-ltb _ 2 (c .before .if1 .left))
+returns-2 c = rw (le-ltb _ 2 (c .if1 .left))
 
 pub answer-spec : {M : Type 1} → statement M
-answer-spec = tie.close (tie.spec returns cast-t4 returns-2)
+answer-spec = tie.close (tie.spec returns returns-2)

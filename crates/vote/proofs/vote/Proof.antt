@@ -1,11 +1,9 @@
 -- `vote::vote` meets its contract: a refusal for numbers that are not allowed, else what is elected.
 use mathlib.Core.Path.{refl, sym, _∙_}
-use native.Mathlib.Nat.{lt-of-lt-of-le}
-use native.Mathlib.Omega.{arith}
 use lib.ListN.{length}
 use borrow.Author.Needs.{needs}
 use Rattle.vote.specs.Decide.{firstOf, blockIn, sideBySide, decide}
-use Rattle.vote.proofs.Decision.{Allowed, allowed, placed, count-tally, count-named}
+use Rattle.vote.proofs.Decision.{Allowed, allowed, placed, count-tally}
 use Rattle.vote.proofs.vote.Statement.{statement}
 use Rattle.vote.proofs.vote.Tie as tie
 
@@ -14,7 +12,7 @@ is-invalid-requires c κs = search needs
 
 returns : tie.Need-returns
 unfolding decide
-returns c = rw (sym (c .before .is-invalid .ensures) ∙ c .if1 .taken, decide) ((refl, refl), λ z. omega arith)
+returns c = rw (sym (c .before .is-invalid .ensures) ∙ c .if1 .taken, decide) (refl, refl)
 
 -- the numbers are allowed
 allowed-here : (c : tie.Else1)
@@ -34,10 +32,7 @@ elected-requires c κs =
     rw (c .before .before .first .ensures, c .before .side-by-side .ensures) (placed numbers, numbers .room)
 
 answer-requires : tie.Need-answer-requires
-answer-requires c κs =
-    let placed = c .before .before .before .before in
-    let within = rw (placed .side-by-side .ensures) at (c .before .before .elected .ensures .1) in
-    lt-of-lt-of-le within (allowed-here (placed .before .before) .few)
+answer-requires c κs = search needs
 
 same-length : tie.Need-same-length
 same-length c = search needs
@@ -51,9 +46,8 @@ returns-2 c =
     let elected = rw (placed .before .first .ensures, placed .side-by-side .ensures) at (c .before .before .before .elected .ensures) in
     let voters = firstOf (a .replicas) in
     let block = blockIn (a .blocks .now) (sideBySide (a .replicas) (a .block-len)) in
-    let named = count-named voters block (elected .0) (lt-of-lt-of-le (elected .1) (allowed-here valid .few)) in
     rw (sym (valid .before .is-invalid .ensures) ∙ valid .if1 .left, decide, c .answer .ensures)
-    ((count-tally voters block (elected .0), elected .2), named)
+    (count-tally voters block (elected .0), elected .1)
 
 pub vote-spec : {M : Type 1} → statement M
 vote-spec =

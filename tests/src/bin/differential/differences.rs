@@ -2,7 +2,7 @@
 
 use crate::tester::Tester;
 use crate::twin::{Item, Twin};
-use poheldu_tests::reference::{Part, Verdict};
+use poheldu_tests::reference::Part;
 use std::fmt::{self, Debug, Display};
 
 const MOST_BYTES_SHOWN: usize = 4_096;
@@ -124,21 +124,6 @@ impl Tester {
             self.fail(
                 call,
                 &format!("answers: reference {expected:?}, library {got:?}"),
-            );
-        }
-    }
-
-    /// Which winner a served vote names is open; all else is fixed.
-    pub fn check_verdict(&self, call: &Call, expected: Verdict, got: Verdict) {
-        let named = match got.number {
-            0 => got.replica < 16 && got.mask & (1 << got.replica) != 0,
-            _ => got.replica == 0,
-        };
-        let replica = expected.replica;
-        if !named || expected != (Verdict { replica, ..got }) {
-            self.fail(
-                call,
-                &format!("verdicts: reference {expected:?}, library {got:?}"),
             );
         }
     }

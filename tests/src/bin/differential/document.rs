@@ -22,17 +22,18 @@ pub fn cases(tester: &mut Tester) {
     filling_frees(tester);
     inspections(tester);
     inspections_among_checks(tester);
-    for (blocks, number, mask) in [
-        (&b"ABA"[..], 0, 5),
-        (b"BAAB", 0, 9),
-        (b"xbaab", 0, 18),
-        (b"ABC", 12, 0),
-        (b"AA", 11, 0),
+    for (blocks, number, mask, replica) in [
+        (&b"ABA"[..], 0, 5, 0),
+        (b"BAAB", 0, 9, 0),
+        (b"BAA", 0, 6, 1),
+        (b"xbaab", 0, 18, 1),
+        (b"ABC", 12, 0, 0),
+        (b"AA", 11, 0, 0),
     ] {
         let mut output = Twin::new(b"???", 0);
         let verdict = tester.vote(&mut Twin::new(blocks, 0), blocks.len(), 1, &mut output);
         expect(
-            (verdict.number, verdict.mask) == (number, mask),
+            (verdict.number, verdict.mask, verdict.replica) == (number, mask, replica),
             "a vote of the document",
         );
     }

@@ -16,6 +16,8 @@ pub const INSPECTIONS: usize = 9;
 pub const LISTED: usize = 7;
 pub const SEEDS: usize = 8;
 pub const LOOKUPS: usize = 6;
+/// Of two winners the last replica is not the lowest.
+pub const NAMED: usize = 15;
 /// Of longer lists the slots are not told apart.
 const MOST_TOLD_APART: usize = 64;
 /// The refusal of metadata that no opening and no request left so.

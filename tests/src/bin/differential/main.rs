@@ -55,6 +55,7 @@ fn main() {
     }
     edges::most_slots(&mut tester, &mut rng);
     votes::vote_grid(&mut tester, &mut rng);
+    votes::each_lowest(&mut tester);
     votes::huge_votes(&mut tester);
     while tester.calls < calls {
         runs::random_calls(&mut tester, &mut rng, calls);

@@ -28,6 +28,7 @@ pub fn report(tester: &Tester) {
     report_kinds("slots listed", &LISTED_KINDS, &tester.listed);
     report_kinds("openings", &SEED_KINDS, &tester.seeds);
     report_kinds("lookups", &LOOKUP_KINDS, &tester.lookups);
+    println!("votes by the replica named: {:?}", tester.named);
     println!(
         "inspections where nobody else wrote: {}, made again with other bytes elsewhere: {}",
         tester.clean, tester.changed
@@ -54,8 +55,8 @@ fn report_kinds(what: &str, kinds: &[&str], counts: &[u64]) {
 }
 
 /// Every refusal number, operation, walk, NULL, kind of read, of string, of
-/// refusal with 13, of inspection, of listed slot, of seeds and of lookup, and
-/// size at an edge has to occur.
+/// refusal with 13, of inspection, of listed slot, of seeds and of lookup,
+/// replica that can be named, and size at an edge has to occur.
 fn require_coverage(tester: &Tester) {
     let seen = [
         &tester.counts[..],
@@ -71,6 +72,7 @@ fn require_coverage(tester: &Tester) {
         &tester.listed,
         &tester.seeds,
         &tester.lookups,
+        &tester.named,
         &[tester.clean, tester.changed],
         &[tester.walks, tester.wraps],
     ];

@@ -3,8 +3,8 @@
 
 use crate::differences::{Call, Name};
 use crate::kinds::{
-    self, BUFFERS, CORRUPT, CORRUPT_METADATA, INSPECTIONS, KINDS, LISTED, LOOKUPS, OPERATIONS,
-    REFUSALS, SEEDS, STRINGS,
+    self, BUFFERS, CORRUPT, CORRUPT_METADATA, INSPECTIONS, KINDS, LISTED, LOOKUPS, NAMED,
+    OPERATIONS, REFUSALS, SEEDS, STRINGS,
 };
 use crate::lookups::{Asked, Found};
 use crate::twin::{Lent, Twin};
@@ -39,6 +39,8 @@ pub struct Tester {
     pub seeds: [u64; SEEDS],
     /// Lookups of slots, of each kind.
     pub lookups: [u64; LOOKUPS],
+    /// Served votes by the replica that they name.
+    pub named: [u64; NAMED],
     /// Inspections in runs from an opening in which nobody else wrote.
     pub clean: u64,
     /// Inspections that list something, made again with other bytes in live slots
@@ -71,6 +73,7 @@ impl Tester {
             listed: [0; LISTED],
             seeds: [0; SEEDS],
             lookups: [0; LOOKUPS],
+            named: [0; NAMED],
             clean: 0,
             changed: 0,
             walks: 0,
@@ -226,9 +229,12 @@ impl Tester {
             name,
             buffers: &[("blocks", blocks.bytes())],
         };
-        self.check_verdict(&call, expected, verdict);
+        self.check(&call, expected, verdict);
         self.check_bytes(&call, &[("blocks", blocks), ("output", output)]);
         self.counts[verdict.number as usize] += 1;
+        if verdict.number == 0 {
+            self.named[verdict.replica as usize] += 1;
+        }
         verdict
     }
 

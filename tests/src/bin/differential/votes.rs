@@ -28,6 +28,25 @@ pub fn vote_grid(tester: &mut Tester, rng: &mut Random) {
     }
 }
 
+/// Each replica in turn is the lowest winner: those before it have contents of
+/// their own, and from it on all share one, or every other one does and the rest
+/// share another.
+pub fn each_lowest(tester: &mut Tester) {
+    for replicas in 3..=16 {
+        for lowest in 0..replicas {
+            for contents in [1, 2] {
+                let content = |replica: usize| match replica.checked_sub(lowest) {
+                    None => replica,
+                    Some(later) => replicas + later % contents,
+                };
+                let blocks: Vec<u8> = (0..replicas).map(|r| content(r) as u8).collect();
+                let mut output = Twin::new(b"?", 0);
+                tester.vote(&mut Twin::new(&blocks, 0), replicas, 1, &mut output);
+            }
+        }
+    }
+}
+
 /// Numbers near 2^32, 2^63 and 2^64 with buffers of a few bytes.
 pub fn huge_votes(tester: &mut Tester) {
     for huge in HUGE {
