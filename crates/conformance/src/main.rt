@@ -1,16 +1,19 @@
-// Runs cases from standard input: for each it opens a heap, serves requests on it, and prints a line for the opening,
-// one for each request, and one with a digest of the heap's bytes.
+// Runs cases from standard input: for each it opens a heap, serves requests on it, has replicas vote, and prints a line
+// for the opening, one for each request, one with a digest of the heap's bytes, and one for the vote, with a digest of
+// its output.
 //
-// A case is a header of six little-endian words, the heap's length, z, w, the pattern, the length of a source and a
-// number of requests, and then the source, which all requests are lent, and the requests, of sixteen bytes each. A heap
-// length above 98,304 counts as 98,304, a source's above 8,192 as 8,192, and a number of requests above 1,024 as 1,024.
-// What an opening does not write stays as the case before left it: bytes in no slot, and where it is refused the whole
-// heap and the metadata. A header that is cut short ends the run.
+// A case is a header of eight little-endian words, the heap's length, z, w, the pattern, the length of a source, a number
+// of requests, a number of replicas and the length of their blocks, and then the source, which all requests are lent and
+// the replicas vote on, and the requests, of sixteen bytes each. A heap length above 98,304 counts as 98,304, a source's
+// above 8,192 as 8,192, and a number of requests above 1,024 as 1,024. What is not written stays as the case before left
+// it: bytes in no slot, where an opening is refused the whole heap and the metadata, and a vote's output. A header that
+// is cut short ends the run.
 use geometry::Plan;
 use libc::STDIN_FILENO;
 use libc::STDOUT_FILENO;
 use numbers::least;
 use numbers::wide;
+use vote::Verdict;
 ghost use mathlib.Core.Path.{_≡_};
 ghost use Prim.Native.Nat.{_+_, _*_, _<_, _≤_, min};
 ghost use lib.ListN.{length};
@@ -20,24 +23,27 @@ ghost use Rattle.writing.specs.Overwrite.{overwrite};
 ghost use Rattle.request.specs.Parse.{requestSize};
 ghost use Rattle.rules.specs.Open.{setup};
 ghost use Rattle.rules.specs.Call.{State, stateOf, opening};
+ghost use Rattle.vote.specs.Decide.{decide, outputAfter};
 ghost use Rattle.replay.specs.Batch.{Batch, batchOf};
 ghost use Rattle.replay.specs.Opened.{openedState};
 ghost use Rattle.conformance.specs.Case.{heapRoom, metadataRoom, sourceRoom, requestsRoom, caseOf};
 ghost use Rattle.conformance.specs.Digest.{digest};
 
-// Room for the bytes of a heap, of its metadata and of a source, and for requests.
+// Room for the bytes of a heap, of its metadata, of a source and of a block, and for requests.
 const HEAP: usize = 98304;
 
 const METADATA: usize = 4096;
 
 const SOURCE: usize = 8192;
 
+const BLOCK: usize = 4096;
+
 const REQUESTS: usize = 1024;
 
 // The bytes of a header.
-const HEADER: usize = 24;
+const HEADER: usize = 32;
 
-// The lengths of a case's heap, metadata, source and requests, its seeds, and its pattern, the canary.
+// The lengths of a case's heap, metadata, source and requests, its seeds, its pattern, the canary, and its vote.
 struct Case {
     heap: usize,
     metadata: usize,
@@ -46,6 +52,8 @@ struct Case {
     canary: u32,
     source: usize,
     requests: usize,
+    replicas: usize,
+    block: usize,
 }
 
 // What a case came to: the opening's answer in numbers, and how many bytes its requests' lines have.
@@ -79,6 +87,8 @@ fn case_of(header: &[u8]) -> Case
         canary: words::get(header, 12),
         source: word_up_to(header, 16, SOURCE),
         requests: request::SIZE * requests,
+        replicas: wide(words::get(header, 24)),
+        block: wide(words::get(header, 28)),
     }
 }
 
@@ -99,25 +109,25 @@ fn digest(bytes: &[u8]) -> u64
 fn run(
     heap: &mut [u8],
     metadata: &mut [u8],
-    z: u32,
-    w: u32,
-    canary: u32,
+    case: Case,
     source: &[u8],
     requests: &[u8],
     out: &mut [u8],
 ) -> Ran
     ensures { λ r.
-        let opened : Reply = opening (length (now (heap .entry))) (now (metadata .entry)) (setup z w canary) .answer in
+        let given = setup (case .z) (case .w) (case .canary) in
+        let opened : Reply = opening (length (now (heap .entry))) (now (metadata .entry)) given .answer in
         ⌜ _≡_ {A = Reply} (record { number = r .number; value = r .value }) opened ⌝ }
     ensures { λ r.
-        let s : State = openedState (now (heap .entry)) (now (metadata .entry)) (setup z w canary) in
+        let given = setup (case .z) (case .w) (case .canary) in
+        let s : State = openedState (now (heap .entry)) (now (metadata .entry)) given in
         let b : Batch = batchOf (now (source .entry)) (length (now (out .entry))) s 1 (now (requests .entry)) in
         ⌜ (r .written ≡ length (b .text))
         × (now (out .exit) ≡ overwrite (now (out .entry)) 0 (b .text))
         × (stateOf (now (heap .exit)) (now (metadata .exit)) ≡ b .state) ⌝ }
     ensures { λ r. ⌜ r .written ≤ length (now (out .exit)) ⌝ }
 {
-    let answer = heap::open(heap, metadata, z, w, canary);
+    let answer = heap::open(heap, metadata, case.z, case.w, case.canary);
     let done = replay::batch(heap, metadata, requests, source, 1, out);
     Ran {
         number: answer.number(),
@@ -126,20 +136,38 @@ fn run(
     }
 }
 
-// Prints the line of an opening.
-fn print_opening(number: u32, value: u32) {
-    io::write_all(STDOUT_FILENO, b"open ");
-    io::print_decimal(STDOUT_FILENO, number as u64);
-    io::write_all(STDOUT_FILENO, b" ");
-    io::print_decimal(STDOUT_FILENO, value as u64);
+// Prints a line: a word, and numbers.
+fn print_line(word: &[u8], numbers: &[u64]) {
+    io::write_all(STDOUT_FILENO, word);
+    let mut i: usize = 0;
+    while i < numbers.len() {
+        io::write_all(STDOUT_FILENO, b" ");
+        io::print_decimal(STDOUT_FILENO, numbers[i]);
+        i += 1;
+    }
     io::write_all(STDOUT_FILENO, b"\n");
 }
 
-// Prints the line of a heap's bytes.
-fn print_heap(digest: u64) {
-    io::write_all(STDOUT_FILENO, b"heap ");
-    io::print_decimal(STDOUT_FILENO, digest);
-    io::write_all(STDOUT_FILENO, b"\n");
+// Has replicas vote, and prints what comes of it.
+fn poll(blocks: &[u8], replicas: usize, block_len: usize, output: &mut [u8])
+    ensures { λ _.
+        let d = decide (now (blocks .entry)) replicas «block_len» (length (now (output .entry))) in
+        ⌜ now (output .exit) ≡ outputAfter d (now (output .entry)) ⌝ }
+{
+    match vote::vote(blocks, replicas, block_len, output) {
+        Verdict::Agreed {
+            mask,
+            count,
+            replica,
+        } => print_line(
+            b"vote",
+            &[0, mask as u64, count as u64, replica as u64, digest(output)],
+        ),
+        Verdict::Refused(refusal) => print_line(
+            b"vote",
+            &[refusal.number() as u64, 0, 0, 0, digest(output)],
+        ),
+    }
 }
 
 fn main() {
@@ -148,6 +176,7 @@ fn main() {
     let mut header = [0u8; HEADER];
     let mut source = [0u8; SOURCE];
     let mut requests = [0u8; request::SIZE * REQUESTS];
+    let mut agreed = [0u8; BLOCK];
     let mut out = io::large_buffer();
     let mut cases: u32 = 0;
     // A proved loop ends: this one ends with the input, or after more cases than any input has.
@@ -165,19 +194,18 @@ fn main() {
         let ran = run(
             &mut heap[0..heap_len],
             &mut metadata[0..metadata_len],
-            case.z,
-            case.w,
-            case.canary,
+            case,
             &source[0..lent],
             &requests[0..got],
             &mut out,
         );
         let written = ran.written;
-        print_opening(ran.number, ran.value);
+        print_line(b"open", &[ran.number as u64, ran.value as u64]);
         if !program::print(&out[0..written], b"conformance: standard output") {
             return;
         }
-        print_heap(digest(&heap[0..heap_len]));
+        print_line(b"heap", &[digest(&heap[0..heap_len])]);
+        poll(&source[0..lent], case.replicas, case.block, &mut agreed);
         cases += 1;
     }
 }

@@ -1,6 +1,6 @@
 //! Writes the input of the program `conformance` to standard output, from cases as text: `cases FILE..`, the files in their order.
 //!
-//! A case begins with a line that opens a heap, and goes on with lines of its source and of its requests:
+//! A case begins with a line that opens a heap, and goes on with lines of its source, of its requests and of its vote:
 //!
 //!     open heap=12*4096 z=1 w=1 pattern=0x07050301
 //!     source "Bertrand\0"
@@ -13,6 +13,7 @@
 //! - Requests in the words of `assemble`, several of them in a line with `;` between: place SIZE, free OFFSET, measure OFFSET,
 //!   copy OFFSET, text OFFSET, counted OFFSET COUNT, read OFFSET COUNT. `bytes 07 00000000 ..`: these, in hexadecimal, as they
 //!   are, and so malformed requests too. `N times REQUEST`: it, N times.
+//! - `vote REPLICAS LENGTH`: so many replicas vote on the source, in blocks of so many bytes. Without such a line both are 0.
 //! - `source-length N`, `request-count N`: what the header says in place of what is there.
 //! - What comes after `#` is a comment, unless it stands between quotes; a line may be empty.
 //!
@@ -38,15 +39,18 @@ struct Case {
     requests: Vec<u8>,
     source_length: Option<u32>,
     request_count: Option<u32>,
+    /// How many replicas, and the length of their blocks.
+    vote: [u32; 2],
 }
 
 impl Case {
-    /// A header of six words, the source and the requests.
+    /// A header of eight words, the source and the requests.
     fn bytes(&self) -> Vec<u8> {
         let source_length = self.source_length.unwrap_or(self.source.len() as u32);
         let requests = self.requests.len().div_ceil(REQUEST) as u32;
         let mut header = self.opened_with.to_vec();
         header.extend([source_length, self.request_count.unwrap_or(requests)]);
+        header.extend(self.vote);
         let header = header.iter().flat_map(|word| word.to_le_bytes());
         header
             .chain(self.source.iter().copied())
@@ -61,6 +65,7 @@ impl Case {
             "source" => self.source.extend(source(rest.trim())?),
             "source-length" => self.source_length = Some(number(rest)?),
             "request-count" => self.request_count = Some(number(rest)?),
+            "vote" => self.vote = vote(rest)?,
             _ => {
                 for request in line.split(';') {
                     self.requests.extend(requests(request)?);
@@ -103,6 +108,15 @@ fn opening(text: &str) -> Read<[u32; 4]> {
         all[place] = value.ok_or_else(|| format!("{} is missing", OPENED_WITH[place]))?;
     }
     Ok(all)
+}
+
+/// What stands after `vote`.
+fn vote(text: &str) -> Read<[u32; 2]> {
+    let words: Vec<&str> = text.split_whitespace().collect();
+    let [replicas, length] = words[..] else {
+        return Err("expected replicas and a length".into());
+    };
+    Ok([number(replicas)?, number(length)?])
 }
 
 /// What stands after `source`.
@@ -237,8 +251,8 @@ mod tests {
 
     #[test]
     fn a_case_is_its_header_source_and_requests() {
-        let text = "open heap=12*4096 z=1 w=0x10 pattern=7 # a comment\nsource \"A#\\0\"\nplace 5; counted 640 4\n";
-        let mut expected = words(&[49_152, 1, 16, 7, 3, 2]);
+        let text = "open heap=12*4096 z=1 w=0x10 pattern=7 # a comment\nsource \"A#\\0\"\nplace 5; counted 640 4\nvote 3 0x1\n";
+        let mut expected = words(&[49_152, 1, 16, 7, 3, 2, 3, 1]);
         expected.extend(b"A#\0");
         expected.extend(words(&[0, 5, 0, 0, 5, 640, 4, 0]));
         assert_eq!(bytes_of(text), expected);
@@ -247,7 +261,7 @@ mod tests {
     #[test]
     fn requests_are_repeated_and_may_be_any_bytes() {
         let text = "open heap=1 z=2 w=3 pattern=4\n2 times free 8\nbytes 07 0102\nsource letters 28\nsource-length 5\n";
-        let mut expected = words(&[1, 2, 3, 4, 5, 3]);
+        let mut expected = words(&[1, 2, 3, 4, 5, 3, 0, 0]);
         expected.extend(b"ABCDEFGHIJKLMNOPQRSTUVWXYZAB");
         expected.extend(words(&[1, 8, 0, 0, 1, 8, 0, 0]));
         expected.extend([7, 1, 2]);
@@ -273,6 +287,8 @@ mod tests {
             "open heap=1",
             "request-count",
             "source letters",
+            "vote 3",
+            "vote 3 1 1",
         ] {
             let found = read(&format!("{open}{bad}")).err().unwrap_or_default();
             assert!(found.starts_with("2: "), "{bad}: {found}");

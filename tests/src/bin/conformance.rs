@@ -1,13 +1,15 @@
-//! By the second implementation, what the program `conformance` prints for the cases on standard input: a header of six words (the heap's
-//! length, z, w, the pattern, the source's length, the number of requests) and then the source and the requests of each.
+//! By the second implementation, what the program `conformance` prints for the cases on standard input: a header of eight words (the
+//! heap's length, z, w, the pattern, the source's length, the number of requests, the number of replicas, the length of their blocks) and
+//! then the source and the requests of each.
 
 use poheldu_tests::reference;
 use std::io::{self, Read, Write};
 
-const HEADER: usize = 24;
+const HEADER: usize = 32;
 const HEAP: usize = 98_304;
 const SOURCE: usize = 8_192;
 const REQUESTS: usize = 1024;
+const BLOCK: usize = 4_096;
 
 fn word(bytes: &[u8], at: usize) -> u32 {
     u32::from_le_bytes(bytes[at..at + 4].try_into().expect("four bytes"))
@@ -40,7 +42,7 @@ fn main() -> io::Result<()> {
     io::stdin().lock().read_to_end(&mut all)?;
     let mut input = &all[..];
     let mut out = io::BufWriter::new(io::stdout().lock());
-    let (mut heap, mut metadata) = (vec![0; HEAP], vec![0; 4096]);
+    let (mut heap, mut metadata, mut output) = (vec![0; HEAP], vec![0; 4096], [0; BLOCK]);
     while input.len() >= HEADER {
         let header = take(&mut input, HEADER);
         let heap = &mut heap[..HEAP.min(word(header, 0) as usize)];
@@ -55,6 +57,10 @@ fn main() -> io::Result<()> {
             writeln!(out, "{} {} {}", i + 1, answer.number, answer.value)?;
         }
         writeln!(out, "heap {}", digest(heap))?;
+        let [replicas, block_len] = [24, 28].map(|at| word(header, at) as usize);
+        let v = reference::vote(source, replicas, block_len, &mut output);
+        write!(out, "vote {} {} {}", v.number, v.mask, v.value)?;
+        writeln!(out, " {} {}", v.replica, digest(&output))?;
     }
     out.flush()
 }

@@ -6,25 +6,41 @@ use mathlib.Core.Path.{_≡_, _∙_}
 use mathlib.Core.List.{List}
 use lib.ListN.{length, length-append}
 use Rattle.request.specs.Parse.{requestSize}
-use Rattle.conformance.specs.Case.{heapRoom, metadataRoom, sourceRoom, requestsRoom}
+use Rattle.conformance.specs.Case.{heapRoom, metadataRoom, sourceRoom, requestsRoom, blockRoom}
 use Rattle.conformance.proofs.main.Statement.{statement}
 use Rattle.conformance.proofs.main.Tie as tie
 
-record Kept (heap metadata header source requests out : List ℕ) : Type 0 where
+record Kept (heap metadata header source requests agreed out : List ℕ) : Type 0 where
   heap-length : length heap ≡ heapRoom
   metadata-length : length metadata ≡ metadataRoom
-  header-length : length header ≡ 24
+  header-length : length header ≡ 32
   source-length : length source ≡ sourceRoom
   requests-length : length requests ≡ requestSize * requestsRoom
+  agreed-length : length agreed ≡ blockRoom
   out-length : length out ≡ 65536
 
 abbrev Inv-loop : tie.InvT-loop
-Inv-loop heap₀ metadata₀ header₀ source₀ requests₀ out₀ cases₀ t17 heap metadata header source requests out cases =
-    Kept heap metadata header source requests out
+Inv-loop heap₀ metadata₀ header₀ source₀ requests₀ agreed₀ out₀ cases₀ t17 t18 t19 heap metadata header source requests agreed out cases =
+    Kept heap metadata header source requests agreed out
 
 abbrev μ-loop : tie.MeasureT-loop
-μ-loop heap₀ metadata₀ header₀ source₀ requests₀ out₀ cases₀ t17 heap metadata header source requests out cases =
+μ-loop heap₀ metadata₀ header₀ source₀ requests₀ agreed₀ out₀ cases₀ t17 t18 t19 heap metadata header source requests agreed out cases =
     2 ^ 32 - cases
+
+-- from the line of a heap back to that of its opening, from there to where its case was run, and from there to where
+-- its header was read
+abbrev opened-of : tie.After-print-line2 Inv-loop μ-loop → tie.After-out2 Inv-loop μ-loop
+opened-of c =
+    let printed = c .before .before .before .before .before .before .before .before in
+    printed .before .before .before .before .before .before .before .before
+
+abbrev ran-of : tie.After-out2 Inv-loop μ-loop → tie.After-run Inv-loop μ-loop
+ran-of c = c .before .before .before
+
+abbrev cased-of : tie.After-run Inv-loop μ-loop → tie.After-case-of Inv-loop μ-loop
+cased-of c =
+    let filled = c .before .before .before .before .before .before .before .before in
+    filled .before .before .before .before .before .before
 
 large-buffer-requires : tie.Need-large-buffer-requires Inv-loop μ-loop
 large-buffer-requires c κs = tt
@@ -113,8 +129,20 @@ slice-aggregate-run c = omega arith
 run-requires : tie.Need-run-requires Inv-loop μ-loop
 run-requires c κs = tt
 
-print-opening-requires : tie.Need-print-opening-requires Inv-loop μ-loop
-print-opening-requires c κs = tt
+slice-aggregate-print-line : tie.Need-slice-aggregate-print-line Inv-loop μ-loop
+slice-aggregate-print-line c = omega arith
+
+cast-t61 : tie.Need-cast-t61 Inv-loop μ-loop
+cast-t61 c = omega arith
+
+cast-t62 : tie.Need-cast-t62 Inv-loop μ-loop
+cast-t62 c = omega arith
+
+slice-aggregate-print-line-2 : tie.Need-slice-aggregate-print-line-2 Inv-loop μ-loop
+slice-aggregate-print-line-2 c = omega arith
+
+print-line-requires : tie.Need-print-line-requires Inv-loop μ-loop
+print-line-requires c κs = tt
 
 sub-print : tie.Need-sub-print Inv-loop μ-loop
 sub-print c = omega arith
@@ -134,6 +162,9 @@ print-requires c κs = tt
 returns-2 : tie.Need-returns-2 Inv-loop μ-loop
 returns-2 c = tt
 
+slice-aggregate-print-line-3 : tie.Need-slice-aggregate-print-line-3 Inv-loop μ-loop
+slice-aggregate-print-line-3 c = omega arith
+
 sub-digest : tie.Need-sub-digest Inv-loop μ-loop
 sub-digest c = omega arith
 
@@ -142,53 +173,71 @@ part-digest-start c = omega arith
 
 part-digest-end : tie.Need-part-digest-end Inv-loop μ-loop
 part-digest-end c =
-    let back = c .before .before .before .before .before .before .before .before .before in
-    let ran = back .before in
-    let filled = ran .before .before .before .before .before .before .before .before in
-    let cased = filled .before .before .before .before .before .before in
+    let printed = c .before .before .before .before in
+    let opened = printed .before .before .before .before .before .before .before .before in
+    let ran = ran-of opened in
+    let cased = cased-of ran in
     let l = cased .before .before .before .before .before .before .before .loop in
-    let size = same-len-mid 0 (cased .case-of .result .heap - 0) (l .heap) (ran .run .last .0) (back .heap2 .given) in
+    let size = same-len-mid 0 (cased .case-of .result .heap - 0) (l .heap) (ran .run .last .0) (opened .before .before .heap2 .given) in
     omega (arith, size)
 
 digest-requires : tie.Need-digest-requires Inv-loop μ-loop
 digest-requires c κs = tt
 
-print-heap-requires : tie.Need-print-heap-requires Inv-loop μ-loop
-print-heap-requires c κs = tt
+slice-aggregate-print-line-4 : tie.Need-slice-aggregate-print-line-4 Inv-loop μ-loop
+slice-aggregate-print-line-4 c = omega arith
+
+print-line-requires-2 : tie.Need-print-line-requires-2 Inv-loop μ-loop
+print-line-requires-2 c κs = tt
+
+sub-poll : tie.Need-sub-poll Inv-loop μ-loop
+sub-poll c = omega arith
+
+part-poll-start : tie.Need-part-poll-start Inv-loop μ-loop
+part-poll-start c = omega arith
+
+part-poll-end : tie.Need-part-poll-end Inv-loop μ-loop
+part-poll-end c =
+    let ran = ran-of (opened-of (c .before)) in
+    let filled = ran .before .before .before .before .before .before .before .before in
+    simp length-append (omega (arith, filled .before .before .before .before .read-full2))
+
+slice-aggregate-poll : tie.Need-slice-aggregate-poll Inv-loop μ-loop
+slice-aggregate-poll c =
+    let cased = cased-of (ran-of (opened-of (c .before .before .before))) in
+    omega (arith, cased .before .before .before .before .before .before .before .loop .inv .agreed-length)
+
+poll-requires : tie.Need-poll-requires Inv-loop μ-loop
+poll-requires c κs = tt
 
 add-cases : tie.Need-add-cases Inv-loop μ-loop
 add-cases c =
-    let printed = c .before .before .before .before .before .before .before .before .before in
-    let ran = printed .before .before .before .before in
-    let filled = ran .before .before .before .before .before .before .before .before in
-    let cased = filled .before .before .before .before .before .before in
+    let cased = cased-of (ran-of (opened-of (c .before .before .before .before .before))) in
     omega (arith, cased .before .before .before .before .before .before .loop-test .taken)
 
 loop-less : tie.Need-loop-less Inv-loop μ-loop
 loop-less c =
-    let printed = c .before .before .before .before .before .before .before .before .before in
-    let ran = printed .before .before .before .before in
-    let filled = ran .before .before .before .before .before .before .before .before in
-    let cased = filled .before .before .before .before .before .before in
+    let cased = cased-of (ran-of (opened-of (c .before .before .before .before .before))) in
     omega (arith, cased .before .before .before .before .before .before .loop-test .taken)
 
 loop-again : tie.Need-loop-again Inv-loop μ-loop
 loop-again c =
-    let printed = c .before .before .before .before .before .before .before .before .before in
-    let ran = printed .before .before .before .before in
+    let opened = opened-of (c .before .before .before .before .before) in
+    let ran = ran-of opened in
+    let cased = cased-of ran in
     let filled = ran .before .before .before .before .before .before .before .before in
     let lent = filled .before .before .before in
-    let cased = lent .before .before .before in
     let case = cased .case-of .result in
     let l = cased .before .before .before .before .before .before .before .loop in
     record {
-      heap-length = same-len-mid 0 (case .heap - 0) (l .heap) (ran .run .last .0) (printed .before .before .before .heap2 .given) ∙ l .inv .heap-length;
+      heap-length = same-len-mid 0 (case .heap - 0) (l .heap) (ran .run .last .0) (opened .before .before .heap2 .given) ∙ l .inv .heap-length;
       metadata-length =
-          same-len-mid 0 (case .metadata - 0) (l .metadata) (ran .run .last .1 .0) (printed .before .before .metadata2 .given) ∙ l .inv .metadata-length;
+          same-len-mid 0 (case .metadata - 0) (l .metadata) (ran .run .last .1 .0) (opened .before .metadata2 .given) ∙ l .inv .metadata-length;
       header-length = omega (arith, ran);
       source-length = same-len-mid 0 (case .source - 0) (l .source) (lent .before .read-full2 .last .1 .0) (lent .source2 .given) ∙ l .inv .source-length;
       requests-length =
           same-len-mid 0 (case .requests - 0) (l .requests) (filled .before .read-full3 .last .1 .0) (filled .requests2 .given) ∙ l .inv .requests-length;
+      agreed-length = omega arith;
       out-length = omega (arith, ran);
     }
 
@@ -230,18 +279,29 @@ main-spec =
     part-run-end-2
     slice-aggregate-run
     run-requires
-    print-opening-requires
+    slice-aggregate-print-line
+    cast-t61
+    cast-t62
+    slice-aggregate-print-line-2
+    print-line-requires
     sub-print
     part-print-start
     part-print-end
     slice-aggregate-print
     print-requires
     returns-2
+    slice-aggregate-print-line-3
     sub-digest
     part-digest-start
     part-digest-end
     digest-requires
-    print-heap-requires
+    slice-aggregate-print-line-4
+    print-line-requires-2
+    sub-poll
+    part-poll-start
+    part-poll-end
+    slice-aggregate-poll
+    poll-requires
     add-cases
     loop-less
     loop-again
