@@ -6,7 +6,7 @@ use Rattle.request.specs.Parse.{requestSize}
 use Rattle.geometry.specs.Layout.{layoutOf, metadataLength}
 use Rattle.conformance.specs.declared.Case.{Case}
 
--- room for the bytes of a heap, of its metadata, of a source and of a block, and for requests
+-- room for the bytes of a heap, of its metadata and of a source, and for requests
 abbrev pub heapRoom : ℕ
 heapRoom = 98304
 
@@ -15,9 +15,6 @@ metadataRoom = 4096
 
 abbrev pub sourceRoom : ℕ
 sourceRoom = 8192
-
-abbrev pub blockRoom : ℕ
-blockRoom = 4096
 
 abbrev pub requestsRoom : ℕ
 requestsRoom = 1024

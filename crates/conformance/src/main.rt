@@ -2,17 +2,18 @@
 // for the opening, one for each request, one with a digest of the heap's bytes, and one for the vote, with a digest of
 // its output.
 //
-// A case is a header of eight little-endian words, the heap's length, z, w, the pattern, the length of a source, a number
-// of requests, a number of replicas and the length of their blocks, and then the source, which all requests are lent and
-// the replicas vote on, and the requests, of sixteen bytes each. A heap length above 98,304 counts as 98,304, a source's
-// above 8,192 as 8,192, and a number of requests above 1,024 as 1,024. What is not written stays as the case before left
-// it: bytes in no slot, where an opening is refused the whole heap and the metadata, and a vote's output. A header that
-// is cut short ends the run.
+// A case is a header of eight little-endian words, the heap's length, z, w, the pattern, the length of a source, a
+// number of requests, a number of replicas and the length of their blocks, and then the source, which all requests are
+// lent and the replicas vote on, and the requests, of sixteen bytes each. A heap length above 98,304 counts as 98,304,
+// a source's above 8,192 as 8,192, and a number of requests above 1,024 as 1,024. What is not written stays as the case
+// before left it: bytes in no slot, where an opening is refused the whole heap and the metadata, and bytes of the
+// output that a vote does not write. A header that is cut short ends the run.
 use geometry::Plan;
 use libc::STDIN_FILENO;
 use libc::STDOUT_FILENO;
 use numbers::least;
 use numbers::wide;
+use vote::LONGEST_BLOCK;
 use vote::Verdict;
 ghost use mathlib.Core.Path.{_≡_};
 ghost use Prim.Native.Nat.{_+_, _*_, _<_, _≤_, min};
@@ -29,14 +30,12 @@ ghost use Rattle.replay.specs.Opened.{openedState};
 ghost use Rattle.conformance.specs.Case.{heapRoom, metadataRoom, sourceRoom, requestsRoom, caseOf};
 ghost use Rattle.conformance.specs.Digest.{digest};
 
-// Room for the bytes of a heap, of its metadata, of a source and of a block, and for requests.
+// Room for the bytes of a heap, of its metadata and of a source, and for requests.
 const HEAP: usize = 98304;
 
 const METADATA: usize = 4096;
 
 const SOURCE: usize = 8192;
-
-const BLOCK: usize = 4096;
 
 const REQUESTS: usize = 1024;
 
@@ -148,8 +147,8 @@ fn print_line(word: &[u8], numbers: &[u64]) {
     io::write_all(STDOUT_FILENO, b"\n");
 }
 
-// Has replicas vote, and prints what comes of it.
-fn poll(blocks: &[u8], replicas: usize, block_len: usize, output: &mut [u8])
+// Has replicas vote, and prints the line of their answer.
+fn print_vote(blocks: &[u8], replicas: usize, block_len: usize, output: &mut [u8])
     ensures { λ _.
         let d = decide (now (blocks .entry)) replicas «block_len» (length (now (output .entry))) in
         ⌜ now (output .exit) ≡ outputAfter d (now (output .entry)) ⌝ }
@@ -176,7 +175,7 @@ fn main() {
     let mut header = [0u8; HEADER];
     let mut source = [0u8; SOURCE];
     let mut requests = [0u8; request::SIZE * REQUESTS];
-    let mut agreed = [0u8; BLOCK];
+    let mut agreed = [0u8; LONGEST_BLOCK];
     let mut out = io::large_buffer();
     let mut cases: u32 = 0;
     // A proved loop ends: this one ends with the input, or after more cases than any input has.
@@ -205,7 +204,7 @@ fn main() {
             return;
         }
         print_line(b"heap", &[digest(&heap[0..heap_len])]);
-        poll(&source[0..lent], case.replicas, case.block, &mut agreed);
+        print_vote(&source[0..lent], case.replicas, case.block, &mut agreed);
         cases += 1;
     }
 }

@@ -13,37 +13,37 @@ use Rattle.search.specs.First.{first}
 use Rattle.search.proofs.First.{first-le, first-passes}
 use Rattle.elect.specs.Leader.{most, leader, votes, lowestOf}
 
+abbrev votesOf : List (List Bool) → ℕ → ℕ
+votesOf table i = votes (getD table i [])
+
 -- the leader is one of those that it leads
 pub leader-le : (table : List (List Bool)) (n : ℕ) → leader table n ≤ n - 1
 unfolding leader
 leader-le table zero = omega arith
 leader-le table (suc n) =
-    go (ltb (votes (getD table (leader table n) [])) (votes (getD table n []))) (leader-le table n)
+    go (ltb (votesOf table (leader table n)) (votesOf table n)) (leader-le table n)
   where
     go : (t : Bool) → leader table n ≤ n - 1 → elim t [ true ↦ n | false ↦ leader table n ] ≤ suc n - 1
     go true rest = omega arith
     go false rest = omega arith
 
 module _ (table : List (List Bool)) where
-  abbrev votesOf : ℕ → ℕ
-  votesOf i = votes (getD table i [])
-
   -- replica i has no more votes than the best, and fewer where it comes before it
   abbrev Below : ℕ → ℕ → Type 0
-  Below best i = (votesOf i ≤ votesOf best) × (i < best → votesOf i < votesOf best)
+  Below best i = (votesOf table i ≤ votesOf table best) × (i < best → votesOf table i < votesOf table best)
 
   below-leader : (n i : ℕ) → i < n → Below (leader table n) i
   unfolding leader
   below-leader zero i h = absurd (omega arith)
-  below-leader (suc n) i h = go (ltb (votesOf (leader table n)) (votesOf n)) refl (below-leader n i)
+  below-leader (suc n) i h = go (ltb (votesOf table (leader table n)) (votesOf table n)) refl (below-leader n i)
     where
-      go : (t : Bool) → ltb (votesOf (leader table n)) (votesOf n) ≡ t → (i < n → Below (leader table n) i)
+      go : (t : Bool) → ltb (votesOf table (leader table n)) (votesOf table n) ≡ t → (i < n → Below (leader table n) i)
           → Below (elim t [ true ↦ n | false ↦ leader table n ]) i
       go true e rest = elim (ℕ-discrete i n) [
         | yes q ↦ rw q (omega arith, λ l. absurd (omega arith))
         | no q ↦
-            let more : votesOf (leader table n) < votesOf n = ltb-true _ _ e in
-            let less : votesOf i < votesOf n = omega (arith, rest (omega arith) .0) in
+            let more : votesOf table (leader table n) < votesOf table n = ltb-true _ _ e in
+            let less : votesOf table i < votesOf table n = omega (arith, rest (omega arith) .0) in
             (omega arith, λ l. less)
       ]
       go false e rest = elim (ℕ-discrete i n) [
@@ -64,7 +64,7 @@ module _ (table : List (List Bool)) where
       let few : best < most = omega (arith, leader-le table most) in
       let upto : low ≤ best = first-le in-row 0 most best (omega arith) own in
       let also : in-row low ≡ true = first-passes in-row 0 most (omega arith) in
-      let as-many : votesOf low ≡ votesOf best = ap votes (same low (omega arith) also) in
+      let as-many : votesOf table low ≡ votesOf table best = ap votes (same low (omega arith) also) in
       elim (decLt low best) [
         | yes l ↦ absurd (omega (arith, below-leader most low (omega arith) .1 l))
         | no l ↦ omega arith
@@ -72,13 +72,13 @@ module _ (table : List (List Bool)) where
 
 -- replicas without votes do not lead after others
 pub leader-front : (table : List (List Bool)) (k n : ℕ) → 0 < k → k ≤ n
-    → ((i : ℕ) → k ≤ i → i < n → votes (getD table i []) ≡ 0) → leader table n ≡ leader table k
+    → ((i : ℕ) → k ≤ i → i < n → votesOf table i ≡ 0) → leader table n ≡ leader table k
 unfolding leader
 leader-front table k zero h l none = absurd (omega arith)
 leader-front table k (suc n) h l none = elim (ℕ-discrete k (suc n)) [
   | yes e ↦ rw e
   | no e ↦
-      rw (none n (omega arith) (omega arith), le-ltb (votes (getD table (leader table n) [])) 0 (omega arith), leader)
+      rw (none n (omega arith) (omega arith), le-ltb (votesOf table (leader table n)) 0 (omega arith), leader)
       (leader-front table k n h (omega arith) (λ i a b. none i a (omega arith)))
 ]
 
@@ -92,7 +92,7 @@ leader-none table = refl
 -- the votes of the leader of the first i replicas; of none, 0
 abbrev pub topVotes : List (List Bool) → ℕ → ℕ → ℕ
 topVotes table best zero = 0
-topVotes table best (suc i) = votes (getD table best [])
+topVotes table best (suc i) = votesOf table best
 
 -- the leader of the first i replicas, with its votes
 pub record Led (table : List (List Bool)) (best top i : ℕ) : Type 0 where
@@ -102,7 +102,7 @@ pub record Led (table : List (List Bool)) (best top i : ℕ) : Type 0 where
 -- the same of one more, which may be the last
 pub record Counted (table : List (List Bool)) (best top i : ℕ) : Type 0 where
   pub first : best ≡ leader table (suc i)
-  pub has : top ≡ votes (getD table best [])
+  pub has : top ≡ votesOf table best
 
 -- none counted yet
 pub led-none : {table : List (List Bool)} → Led table 0 0 0
@@ -112,16 +112,18 @@ led-none = record { first = refl; has = refl }
 -- who is alone leads
 leader-one : (table : List (List Bool)) → leader table 1 ≡ 0
 unfolding leader
-leader-one table = rw (le-ltb (votes (getD table 0 [])) (votes (getD table 0 [])) (omega arith), leader)
+leader-one table = rw (le-ltb (votesOf table 0) (votesOf table 0) (omega arith), leader)
 
 -- the next replica leads if it has more votes; if it has not, who led leads on
-pub led-new : {table : List (List Bool)} {best top i : ℕ} → Led table best top i → {v : ℕ} → v ≡ votes (getD table i []) → top < v
+pub led-new : {table : List (List Bool)} {best top i : ℕ} → Led table best top i
+    → {v : ℕ} → v ≡ votesOf table i → top < v
     → Counted table i v i
 unfolding leader
 led-new {table} {i = zero} l e m = record { first = sym (leader-one table); has = e }
 led-new {table} {i = suc i} l e m = record { first = sym (rw (lt-ltb _ _ (rw (l .has, l .first, e) at m), leader)); has = e }
 
-pub led-old : {table : List (List Bool)} {best top i : ℕ} → Led table best top i → {v : ℕ} → v ≡ votes (getD table i []) → v ≤ top
+pub led-old : {table : List (List Bool)} {best top i : ℕ} → Led table best top i
+    → {v : ℕ} → v ≡ votesOf table i → v ≤ top
     → Counted table best top i
 unfolding leader
 led-old {table} {i = zero} l e m =

@@ -101,7 +101,7 @@ elected-wins {table} {k} c e =
 module _ (voting : List Bool) (block : ℕ → List ℕ) {w : Elected} (e : w ≡ winnerOf (agreements voting block)) where
   -- those who agree with it
   abbrev pub winners : List Bool
-  winners = getD (agreements voting block) (w .replica) []
+  winners = rowAt voting block (w .replica)
 
   -- with one vote at most no two agree
   pub count-lost : w .count < 2 → count voting block ≡ lost NoAgreement

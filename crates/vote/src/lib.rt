@@ -14,7 +14,7 @@ ghost use Rattle.vote.specs.Groups.{rowOf, Placed, winnerOf, tallied};
 
 const FEWEST_REPLICAS: usize = 3;
 
-const LONGEST_BLOCK: usize = 4096;
+pub const LONGEST_BLOCK: usize = 4096;
 
 // How many replicas there are, how far apart their outputs lie, and in each the place and the length of the bytes that
 // are compared.

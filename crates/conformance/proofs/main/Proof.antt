@@ -6,7 +6,8 @@ use mathlib.Core.Path.{_≡_, _∙_}
 use mathlib.Core.List.{List}
 use lib.ListN.{length, length-append}
 use Rattle.request.specs.Parse.{requestSize}
-use Rattle.conformance.specs.Case.{heapRoom, metadataRoom, sourceRoom, requestsRoom, blockRoom}
+use Rattle.vote.specs.Decide.{longest}
+use Rattle.conformance.specs.Case.{heapRoom, metadataRoom, sourceRoom, requestsRoom}
 use Rattle.conformance.proofs.main.Statement.{statement}
 use Rattle.conformance.proofs.main.Tie as tie
 
@@ -16,19 +17,19 @@ record Kept (heap metadata header source requests agreed out : List ℕ) : Type 
   header-length : length header ≡ 32
   source-length : length source ≡ sourceRoom
   requests-length : length requests ≡ requestSize * requestsRoom
-  agreed-length : length agreed ≡ blockRoom
+  agreed-length : length agreed ≡ longest
   out-length : length out ≡ 65536
 
 abbrev Inv-loop : tie.InvT-loop
-Inv-loop heap₀ metadata₀ header₀ source₀ requests₀ agreed₀ out₀ cases₀ t17 t18 t19 heap metadata header source requests agreed out cases =
+Inv-loop _ _ _ _ _ _ _ _ _ _ _ heap metadata header source requests agreed out cases =
     Kept heap metadata header source requests agreed out
 
 abbrev μ-loop : tie.MeasureT-loop
-μ-loop heap₀ metadata₀ header₀ source₀ requests₀ agreed₀ out₀ cases₀ t17 t18 t19 heap metadata header source requests agreed out cases =
+μ-loop _ _ _ _ _ _ _ _ _ _ _ heap metadata header source requests agreed out cases =
     2 ^ 32 - cases
 
--- from the line of a heap back to that of its opening, from there to where its case was run, and from there to where
--- its header was read
+-- back from the line of a heap to that of its opening, to where its case was run, to where its header was read, and to
+-- the start of its turn
 abbrev opened-of : tie.After-print-line2 Inv-loop μ-loop → tie.After-out2 Inv-loop μ-loop
 opened-of c =
     let printed = c .before .before .before .before .before .before .before .before in
@@ -41,6 +42,9 @@ abbrev cased-of : tie.After-run Inv-loop μ-loop → tie.After-case-of Inv-loop 
 cased-of c =
     let filled = c .before .before .before .before .before .before .before .before in
     filled .before .before .before .before .before .before
+
+abbrev turn-of : tie.After-case-of Inv-loop μ-loop → tie.In-loop Inv-loop μ-loop
+turn-of c = c .before .before .before .before .before .before
 
 large-buffer-requires : tie.Need-large-buffer-requires Inv-loop μ-loop
 large-buffer-requires c κs = tt
@@ -177,8 +181,9 @@ part-digest-end c =
     let opened = printed .before .before .before .before .before .before .before .before in
     let ran = ran-of opened in
     let cased = cased-of ran in
-    let l = cased .before .before .before .before .before .before .before .loop in
-    let size = same-len-mid 0 (cased .case-of .result .heap - 0) (l .heap) (ran .run .last .0) (opened .before .before .heap2 .given) in
+    let l = turn-of cased .before .loop in
+    let back = opened .before .before .heap2 .given in
+    let size = same-len-mid 0 (cased .case-of .result .heap - 0) (l .heap) (ran .run .last .0) back in
     omega (arith, size)
 
 digest-requires : tie.Need-digest-requires Inv-loop μ-loop
@@ -190,35 +195,35 @@ slice-aggregate-print-line-4 c = omega arith
 print-line-requires-2 : tie.Need-print-line-requires-2 Inv-loop μ-loop
 print-line-requires-2 c κs = tt
 
-sub-poll : tie.Need-sub-poll Inv-loop μ-loop
-sub-poll c = omega arith
+sub-print-vote : tie.Need-sub-print-vote Inv-loop μ-loop
+sub-print-vote c = omega arith
 
-part-poll-start : tie.Need-part-poll-start Inv-loop μ-loop
-part-poll-start c = omega arith
+part-print-vote-start : tie.Need-part-print-vote-start Inv-loop μ-loop
+part-print-vote-start c = omega arith
 
-part-poll-end : tie.Need-part-poll-end Inv-loop μ-loop
-part-poll-end c =
+part-print-vote-end : tie.Need-part-print-vote-end Inv-loop μ-loop
+part-print-vote-end c =
     let ran = ran-of (opened-of (c .before)) in
     let filled = ran .before .before .before .before .before .before .before .before in
     simp length-append (omega (arith, filled .before .before .before .before .read-full2))
 
-slice-aggregate-poll : tie.Need-slice-aggregate-poll Inv-loop μ-loop
-slice-aggregate-poll c =
+slice-aggregate-print-vote : tie.Need-slice-aggregate-print-vote Inv-loop μ-loop
+slice-aggregate-print-vote c =
     let cased = cased-of (ran-of (opened-of (c .before .before .before))) in
-    omega (arith, cased .before .before .before .before .before .before .before .loop .inv .agreed-length)
+    omega (arith, turn-of cased .before .loop .inv .agreed-length)
 
-poll-requires : tie.Need-poll-requires Inv-loop μ-loop
-poll-requires c κs = tt
+print-vote-requires : tie.Need-print-vote-requires Inv-loop μ-loop
+print-vote-requires c κs = tt
+
+-- the turn that a case ends
+abbrev ended : tie.After-agreed2 Inv-loop μ-loop → tie.In-loop Inv-loop μ-loop
+ended c = turn-of (cased-of (ran-of (opened-of (c .before .before .before .before .before))))
 
 add-cases : tie.Need-add-cases Inv-loop μ-loop
-add-cases c =
-    let cased = cased-of (ran-of (opened-of (c .before .before .before .before .before))) in
-    omega (arith, cased .before .before .before .before .before .before .loop-test .taken)
+add-cases c = omega (arith, ended c .loop-test .taken)
 
 loop-less : tie.Need-loop-less Inv-loop μ-loop
-loop-less c =
-    let cased = cased-of (ran-of (opened-of (c .before .before .before .before .before))) in
-    omega (arith, cased .before .before .before .before .before .before .loop-test .taken)
+loop-less c = omega (arith, ended c .loop-test .taken)
 
 loop-again : tie.Need-loop-again Inv-loop μ-loop
 loop-again c =
@@ -228,11 +233,13 @@ loop-again c =
     let filled = ran .before .before .before .before .before .before .before .before in
     let lent = filled .before .before .before in
     let case = cased .case-of .result in
-    let l = cased .before .before .before .before .before .before .before .loop in
+    let l = turn-of cased .before .loop in
+    let heap = opened .before .before .heap2 .given in
+    let metadata = opened .before .metadata2 .given in
     record {
-      heap-length = same-len-mid 0 (case .heap - 0) (l .heap) (ran .run .last .0) (opened .before .before .heap2 .given) ∙ l .inv .heap-length;
+      heap-length = same-len-mid 0 (case .heap - 0) (l .heap) (ran .run .last .0) heap ∙ l .inv .heap-length;
       metadata-length =
-          same-len-mid 0 (case .metadata - 0) (l .metadata) (ran .run .last .1 .0) (opened .before .metadata2 .given) ∙ l .inv .metadata-length;
+          same-len-mid 0 (case .metadata - 0) (l .metadata) (ran .run .last .1 .0) metadata ∙ l .inv .metadata-length;
       header-length = omega (arith, ran);
       source-length = same-len-mid 0 (case .source - 0) (l .source) (lent .before .read-full2 .last .1 .0) (lent .source2 .given) ∙ l .inv .source-length;
       requests-length =
@@ -297,11 +304,11 @@ main-spec =
     digest-requires
     slice-aggregate-print-line-4
     print-line-requires-2
-    sub-poll
-    part-poll-start
-    part-poll-end
-    slice-aggregate-poll
-    poll-requires
+    sub-print-vote
+    part-print-vote-start
+    part-print-vote-end
+    slice-aggregate-print-vote
+    print-vote-requires
     add-cases
     loop-less
     loop-again
