@@ -51,6 +51,10 @@ module _ (table : List (List Bool)) where
         | no q ↦ rest (omega arith)
       ]
 
+  -- nobody has more votes than the leader
+  pub leader-most : (n i : ℕ) → i < n → votesOf table i ≤ votesOf table (leader table n)
+  leader-most n i h = below-leader n i h .0
+
   -- where all in its row have that row, and it is one of them, the leader is the lowest of them
   pub leader-lowest : let best = leader table most in
       let row = getD table best [] in

@@ -1,10 +1,11 @@
 -- The winner of a table of which two replicas agree.
-use Prim.Native.Nat.{ℕ, zero, suc, _+_, _*_}
+use Prim.Native.Nat.{ℕ, zero, suc, _+_, _*_, _/_, _%_, _^_}
 use mathlib.Core.Bool.{Bool, true, false, cond}
 use mathlib.Core.List.{List, [], _∷_}
 use lib.ListN.{getD, take}
 use lib.Dec.{ltb, eqb}
 use Rattle.search.specs.First.{first}
+use Rattle.search.specs.Tabulate.{tabulate}
 use Rattle.elect.specs.declared.Elected.{Elected}
 
 -- replicas of a table
@@ -22,6 +23,10 @@ votes row = digits 1 row
 
 abbrev pub maskOf : List Bool → ℕ
 maskOf row = digits 2 row
+
+-- those whose bits are set in a mask, as a row of all
+abbrev pub rowOf : ℕ → List Bool
+rowOf mask = tabulate (λ r. eqb (mask / 2 ^ r % 2) 1) 0 most
 
 -- the lowest-numbered of them; of none, the number after the last
 abbrev pub lowestOf : List Bool → ℕ

@@ -1,5 +1,5 @@
 -- Who votes, and that two who vote agree where their groups are one.
-use Prim.Native.Nat.{ℕ, _-_, _*_, _%_, _^_, _≤_, _<_}
+use Prim.Native.Nat.{ℕ, _-_, _*_, _%_, _^_, _≤_, _<_, min}
 use native.Mathlib.Nat.{zero-add}
 use native.Mathlib.Decide.{decLt}
 use native.Mathlib.Omega.{arith}
@@ -8,28 +8,51 @@ use mathlib.Core.Bool.{Bool, true, false, _&&_, and-true, and-false, and-self, a
 use mathlib.Core.List.{List, [], _∷_}
 use mathlib.Core.Logic.{_↔_}
 use lib.ListN.{getD, replicate}
-use lib.Dec.{eqb}
-use borrow.Author.Tests.{eqb-true, eq-eqb}
+use lib.Dec.{eqb, ltb}
+use borrow.Author.Tests.{eqb-true, eq-eqb, ltb-true, lt-ltb}
 use Rattle.search.specs.First.{first}
 use Rattle.search.specs.Tabulate.{tabulate}
 use Rattle.search.proofs.First.{first-range, first-passes, first-le, first-ge, first-holds}
-use Rattle.search.proofs.Tabulate.{tabulate-at, tabulate-same}
+use Rattle.search.proofs.Tabulate.{tabulate-at, tabulate-length, tabulate-same}
 use Rattle.alike.specs.Alike.{alike}
 use Rattle.alike.proofs.Equal.{alike-self, alike-equal, same-truth}
 use Rattle.vote.specs.Decide.{firstOf, agree, row}
-use Rattle.vote.specs.Groups.{rowOf, groupOf, groupsOf, together}
+use Rattle.elect.specs.Leader.{digits, votes, maskOf, rowOf}
+use Rattle.elect.proofs.Rows.{row-mask}
+use Rattle.vote.specs.Groups.{groupOf, groupsOf, together}
 use Rattle.elect.proofs.Tables.{Filled}
 
--- the first k as bits, one computation for every k
-first-rows : tabulate (λ k. rowOf (1 * 2 ^ k % 2 ^ 32 - 1)) 0 17 ≡ tabulate firstOf 0 17
-unfolding tabulate
-first-rows = refl
+-- two comparisons that come to the same
+pub same-ltb : (a b x y : ℕ) → (a < b → x < y) → (x < y → a < b) → ltb a b ≡ ltb x y
+same-ltb a b x y f g = same-truth _ _ (λ h. lt-ltb _ _ (f (ltb-true _ _ h))) (λ h. lt-ltb _ _ (g (ltb-true _ _ h)))
 
-pub first-row : (k : ℕ) → k ≤ 16 → rowOf (1 * 2 ^ k % 2 ^ 32 - 1) ≡ firstOf k
-first-row k l =
-    sym (tabulate-at (λ k. rowOf (1 * 2 ^ k % 2 ^ 32 - 1)) [] 17 k (omega arith))
-    ∙ ap (λ (rows : List (List Bool)). getD rows k []) first-rows
-    ∙ tabulate-at firstOf [] 17 k (omega arith)
+-- the first k as a mask, one computation for every k
+first-masks : tabulate (λ k. 1 * 2 ^ k % 2 ^ 32 - 1) 0 17 ≡ tabulate (λ k. maskOf (firstOf k)) 0 17
+unfolding tabulate digits
+first-masks = refl
+
+-- of more than there can be, all
+pub first-mask : (k : ℕ) → 1 * 2 ^ min k 16 % 2 ^ 32 - 1 ≡ maskOf (firstOf k)
+first-mask k =
+    sym (tabulate-at (λ k. 1 * 2 ^ k % 2 ^ 32 - 1) 0 17 (min k 16) (omega arith))
+    ∙ ap (λ (masks : List ℕ). getD masks (min k 16) 0) first-masks
+    ∙ tabulate-at (λ k. maskOf (firstOf k)) 0 17 (min k 16) (omega arith)
+    ∙ ap maskOf (tabulate-same _ _ 0 16 0 (λ r l m. same-ltb r (min k 16) r k (λ h. omega arith) (λ h. omega arith)))
+
+-- they have k votes
+first-counts : tabulate (λ k. votes (firstOf k)) 0 17 ≡ tabulate (λ k. k) 0 17
+unfolding tabulate digits
+first-counts = refl
+
+pub first-votes : (k : ℕ) → k ≤ 16 → votes (firstOf k) ≡ k
+first-votes k l =
+    sym (tabulate-at (λ k. votes (firstOf k)) 0 17 k (omega arith))
+    ∙ ap (λ (counts : List ℕ). getD counts k 0) first-counts
+    ∙ tabulate-at (λ k. k) 0 17 k (omega arith)
+
+-- and as a row again
+pub first-row : (k : ℕ) → rowOf (maskOf (firstOf k)) ≡ firstOf k
+first-row k = row-mask (firstOf k) (tabulate-length (λ r. ltb r k) 0 16)
 
 module _ (voting : List Bool) (block : ℕ → List ℕ) where
   -- ---- to agree
@@ -46,7 +69,7 @@ module _ (voting : List Bool) (block : ℕ → List ℕ) where
   agree-self i = rw (alike-self, and-true, and-self)
 
   -- two agree both ways
-  agree-both : (i j : ℕ) → agree voting block i j ≡ true → agree voting block j i ≡ true
+  pub agree-both : (i j : ℕ) → agree voting block i j ≡ true → agree voting block j i ≡ true
   agree-both i j h =
       let (both, same) = and-eq-true-iff (getD voting i false && getD voting j false) (alike (block i) (block j)) .0 h in
       rw (alike-equal (block i) (block j) same, alike-self, and-comm (getD voting j false) (getD voting i false), both)

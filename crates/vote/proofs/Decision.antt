@@ -1,6 +1,6 @@
 -- A vote's decision from what the code finds.
-use Prim.Native.Nat.{ℕ, _+_, _*_, _≤_, _<_, min}
-use native.Mathlib.Nat.{suc-mul, mul-le-mul-right}
+use Prim.Native.Nat.{ℕ, _+_, _*_, _/_, _%_, _^_, _≤_, _<_, min}
+use native.Mathlib.Nat.{suc-mul, mul-le-mul-right, div-eq-of-lt}
 use native.Mathlib.Decide.{decLt}
 use native.Mathlib.Omega.{arith}
 use mathlib.Core.Path.{_≡_, refl, sym, _∙_}
@@ -9,26 +9,27 @@ use mathlib.Core.Bool.{Bool, true, false, true≢false, _||_}
 use mathlib.Core.List.{List, [], _++_}
 use lib.ListN.{length, getD, take, drop, length-take, length-drop, List·getD-eq-default}
 use lib.Seq.{take-all}
-use lib.Dec.{ltb}
-use borrow.Author.Tests.{lt-ltb, le-ltb, ltb-true, ltb-false, eqb-true, not-false}
+use lib.Dec.{ltb, eqb}
+use lib.Pow.{pow-mono}
+use borrow.Author.Tests.{lt-ltb, le-ltb, ltb-true, ltb-false, eqb-true, eq-eqb, not-false}
 use Rattle.answer.specs.declared.Refusal.the-variants.{NoAgreement}
 use Rattle.search.specs.Tabulate.{tabulate}
 use Rattle.search.proofs.Tabulate.{tabulate-at, tabulate-length, tabulate-same}
 use Rattle.writing.specs.Overwrite.{overwrite}
 use Rattle.vote.specs.declared.Places.{Places}
 use Rattle.elect.specs.declared.Elected.{Elected}
-use Rattle.elect.specs.Leader.{most, votes, maskOf, lowestOf, leader, electedOf}
+use Rattle.elect.specs.Leader.{most, votes, maskOf, rowOf, lowestOf, leader, electedOf}
 use Rattle.elect.proofs.Rows.{digits-none, digits-front}
 use Rattle.elect.proofs.Leading.{leader-le, leader-front, leader-lowest}
 use Rattle.vote.specs.Groups.{Placed, Countable, winnerOf, tallied}
 use Rattle.vote.specs.Decide.{firstOf, blockIn, agree, row, agreements}
-use Rattle.vote.specs.Decide.{invalid, won, lost, count, sideBySide, tally}
+use Rattle.vote.specs.Decide.{invalid, won, lost, count, sideBySide, misplaced, step, tally}
 use Rattle.vote.proofs.Comparing.{out-agrees, agrees-out, agree-self, agree-same}
 
 -- ---- the table
 
 -- where a test does not pass, its row says no, past the end too
-says-no : (f : ℕ → Bool) (j : ℕ) → f j ≡ false → getD (tabulate f 0 16) j false ≡ false
+pub says-no : (f : ℕ → Bool) (j : ℕ) → f j ≡ false → getD (tabulate f 0 16) j false ≡ false
 says-no f j e = elim (decLt j 16) [
   | yes l ↦ tabulate-at f false 16 j l ∙ e
   | no l ↦ List·getD-eq-default (tabulate f 0 16) false (omega (arith, tabulate-length f 0 16))
@@ -38,7 +39,7 @@ module _ (voting : List Bool) (block : ℕ → List ℕ) where
   abbrev rowAt : ℕ → List Bool
   rowAt i = getD (agreements voting block) i []
 
-  row-at : (i : ℕ) → i < 16 → rowAt i ≡ row voting block i
+  pub row-at : (i : ℕ) → i < 16 → rowAt i ≡ row voting block i
   row-at i few = tabulate-at (row voting block) [] 16 i few
 
   -- who does not vote has nobody in its row, and is in no row
@@ -49,7 +50,7 @@ module _ (voting : List Bool) (block : ℕ → List ℕ) where
   out-row i few j e = rw (row-at i few) (says-no (agree voting block i) j (agrees-out voting block i j e))
 
   -- who has a vote votes, and agrees with itself
-  row-own : (i : ℕ) → i < 16 → 1 ≤ votes (rowAt i) → getD (rowAt i) i false ≡ true
+  pub row-own : (i : ℕ) → i < 16 → 1 ≤ votes (rowAt i) → getD (rowAt i) i false ≡ true
   row-own i few h =
       rw (row-at i few, tabulate-at (agree voting block i) false 16 i few, agree-self voting block i)
       (go (getD voting i false) refl)
@@ -59,7 +60,7 @@ module _ (voting : List Bool) (block : ℕ → List ℕ) where
       go false e = absurd (omega (arith, digits-none 1 (rowAt i) (row-out i few e)))
 
   -- who is in a row has that row
-  row-same : (i : ℕ) → i < 16 → (j : ℕ) → j < 16 → getD (rowAt i) j false ≡ true → rowAt j ≡ rowAt i
+  pub row-same : (i : ℕ) → i < 16 → (j : ℕ) → j < 16 → getD (rowAt i) j false ≡ true → rowAt j ≡ rowAt i
   row-same i few j l h =
       let agrees : agree voting block i j ≡ true =
       sym (tabulate-at (agree voting block i) false 16 j l) ∙ rw (row-at i few) at h in
@@ -143,33 +144,112 @@ neither true b = (λ e. absurd (true≢false e), λ e. e .0)
 neither false b = (λ e. (refl, e), λ e. e .1)
 
 -- its numbers
-pub record Allowed (blocksLength k size outputLength : ℕ) : Type 0 where
-  pub some : 0 < k
+pub record Allowed (limit lent k size room : ℕ) : Type 0 where
+  pub several : 3 ≤ k
   pub few : k ≤ 16
-  pub whole : blocksLength ≡ k * size
-  pub room : size ≤ outputLength
+  pub some : 0 < size
+  pub short : size ≤ limit
+  pub whole : lent ≡ k * size
+  pub fits : size ≤ room
 
 -- a vote that is not invalid is allowed
-pub allowed : {blocksLength k size outputLength : ℕ} → invalid blocksLength k size outputLength ≡ false
-    → Allowed blocksLength k size outputLength
+pub allowed : {limit lent k size room : ℕ} → invalid limit lent k size room ≡ false → Allowed limit lent k size room
 allowed e =
+    let facts = simp neither at e in
+    record {
+      several = omega (arith, ltb-false);
+      few = omega (arith, ltb-false);
+      some = omega (arith, ltb-false);
+      short = omega (arith, ltb-false);
+      whole = eqb-true _ _ (not-false _ (facts .0 .1));
+      fits = omega (arith, ltb-false);
+    }
+
+-- and the other way round
+pub not-invalid : {limit lent k size room : ℕ} → Allowed limit lent k size room → invalid limit lent k size room ≡ false
+not-invalid a =
+    rw (
+      le-ltb _ _ (a .several),
+      le-ltb _ _ (a .few),
+      le-ltb _ _ (a .some),
+      le-ltb _ _ (a .short),
+      eq-eqb _ _ (a .whole),
+      le-ltb _ _ (a .fits),
+    )
+
+-- of k outputs one after another each ends within
+pub output-end : {r k : ℕ} (len : ℕ) → r < k → r * len + len ≤ k * len
+output-end len h = rw (← suc-mul) (mul-le-mul-right len h)
+
+-- past the first k none votes
+pub first-only : (k r : ℕ) → k ≤ r → getD (firstOf k) r false ≡ false
+first-only k r h = says-no (λ r. ltb r k) r (le-ltb r k h)
+
+-- its blocks lie side by side
+pub placed : {blocks : List ℕ} {limit k size room : ℕ} → Allowed limit (length blocks) k size room
+    → Placed (firstOf k) blocks (sideBySide k size)
+placed {k = k} {size = size} a =
+    record {
+      some = omega (arith, a .several);
+      few = a .few;
+      none-past = first-only k;
+      within = λ r h. omega (arith, a .whole, output-end size h);
+    }
+
+-- ---- a step
+
+-- its numbers
+pub record Fitting (lent still : ℕ) (p : Places) (room : ℕ) : Type 0 where
+  pub some : 0 < p .replicas
+  pub few : p .replicas ≤ 16
+  pub voters : still < 2 ^ p .replicas
+  pub part : p .at + p .len ≤ p .apart
+  pub whole : p .replicas * p .apart ≤ lent
+  pub fits : p .len ≤ room
+
+-- a step that is not misplaced fits, and the other way round
+pub fitting : {lent still : ℕ} {p : Places} {room : ℕ} → misplaced lent still p room ≡ false → Fitting lent still p room
+fitting e =
     let facts = simp neither at e in
     record {
       some = omega (arith, ltb-false);
       few = omega (arith, ltb-false);
-      whole = eqb-true _ _ (not-false _ (facts .0 .1));
-      room = omega (arith, ltb-false);
+      voters = ltb-true _ _ (not-false _ (facts .0 .0 .0 .1));
+      part = omega (arith, ltb-false);
+      whole = ltb-false _ _ (facts .0 .1);
+      fits = omega (arith, ltb-false);
     }
 
--- its blocks lie side by side
-pub placed : {blocks : List ℕ} {k size n : ℕ} → Allowed (length blocks) k size n
-    → Placed (firstOf k) blocks (sideBySide k size)
-placed {k = k} {size = size} a =
+not-misplaced : {lent still : ℕ} {p : Places} {room : ℕ} → Fitting lent still p room → misplaced lent still p room ≡ false
+not-misplaced f =
+    rw (
+      le-ltb _ _ (f .some),
+      le-ltb _ _ (f .few),
+      lt-ltb _ _ (f .voters),
+      le-ltb _ _ (f .part),
+      le-ltb _ _ (f .whole),
+      le-ltb _ _ (f .fits),
+    )
+
+-- so that it is a count
+pub step-counts : (outputs : List ℕ) {still : ℕ} {p : Places} {room : ℕ} → Fitting (length outputs) still p room
+    → step outputs still p room ≡ count (rowOf still) (blockIn outputs p)
+unfolding step
+step-counts outputs f = rw (not-misplaced f, step)
+
+-- only those who are there vote
+pub voters-only : {still k : ℕ} → still < 2 ^ k → (r : ℕ) → k ≤ r → getD (rowOf still) r false ≡ false
+voters-only {still} {k} few r h =
+    let none : still / 2 ^ r ≡ 0 = div-eq-of-lt (omega (arith, pow-mono {i = k} {j = r} h)) in
+    says-no (λ r. eqb (still / 2 ^ r % 2) 1) r (rw none)
+
+-- and its bytes are there
+pub placed-step : {outputs : List ℕ} {still : ℕ} {p : Places} {room : ℕ} → Fitting (length outputs) still p room
+    → Placed (rowOf still) outputs p
+placed-step {still = still} {p = p} f =
     record {
-      some = a .some;
-      few = a .few;
-      none-past = λ r h. says-no (λ r. ltb r k) r (le-ltb r k h);
-      within = λ r h.
-          let next : r * size + size ≤ k * size = rw (← suc-mul) (mul-le-mul-right size h) in
-          omega (arith, a .whole);
+      some = f .some;
+      few = f .few;
+      none-past = voters-only (f .voters);
+      within = λ r h. omega (arith, f .part, f .whole, output-end (p .apart) h);
     }

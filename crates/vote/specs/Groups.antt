@@ -1,5 +1,5 @@
 -- How comparing and counting go about their work. What the vote promises rests on `Decide` alone.
-use Prim.Native.Nat.{ℕ, _+_, _*_, _/_, _%_, _^_, _≤_, _<_}
+use Prim.Native.Nat.{ℕ, _+_, _*_, _≤_, _<_}
 use mathlib.Core.Path.{_≡_}
 use mathlib.Core.Bool.{Bool, false, cond, _&&_}
 use mathlib.Core.List.{List, []}
@@ -8,15 +8,10 @@ use lib.Dec.{ltb, eqb}
 use Rattle.search.specs.First.{first}
 use Rattle.search.specs.Tabulate.{tabulate}
 use Rattle.answer.specs.declared.Refusal.the-variants.{NoAgreement}
-use Rattle.answer.specs.Reply.{numberOf}
 use Rattle.vote.specs.declared.Places.{Places}
 use Rattle.elect.specs.declared.Elected.{Elected}
 use Rattle.elect.specs.Leader.{most, votes, maskOf, leader}
-use Rattle.vote.specs.Decide.{agree, Tally}
-
--- those whose bits are set in a mask, as a row of all sixteen
-abbrev pub rowOf : ℕ → List Bool
-rowOf mask = tabulate (λ r. eqb (mask / 2 ^ r % 2) 1) 0 most
+use Rattle.vote.specs.Decide.{agree, Tally, refusedWith}
 
 -- what comparing relies on: no more replicas than sixteen, and at least one; none votes past them; all bytes are there
 pub record Placed (voting : List Bool) (outputs : List ℕ) (p : Places) : Type 0 where
@@ -54,5 +49,5 @@ winnerOf table =
 abbrev pub tallied : Elected → Tally
 tallied w =
     cond (ltb (w .count) 2)
-    (record { number = numberOf NoAgreement; mask = 0; value = 0; replica = 0 })
+    (refusedWith NoAgreement 0)
     (record { number = 0; mask = w .mask; value = w .count; replica = w .replica })

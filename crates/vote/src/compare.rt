@@ -6,7 +6,8 @@ ghost use mathlib.Core.Bool.{false};
 ghost use lib.ListN.{length, getD};
 ghost use Rattle.search.specs.Tabulate.{tabulate};
 ghost use Rattle.vote.specs.Decide.{blockIn, agree, agreements};
-ghost use Rattle.vote.specs.Groups.{rowOf, Placed, groupOf, groupsOf, together};
+ghost use Rattle.elect.specs.Leader.{rowOf};
+ghost use Rattle.vote.specs.Groups.{Placed, groupOf, groupsOf, together};
 
 // The bytes of a replica, and where they lie.
 pub fn block(outputs: &[u8], p: Places, replica: usize) -> &[u8]

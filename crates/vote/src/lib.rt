@@ -4,13 +4,15 @@ mod compare;
 use answer::Refusal;
 use elect::Elected;
 use elect::MOST;
+use numbers::least;
+use numbers::wide;
 ghost use mathlib.Core.Path.{_≡_};
 ghost use Prim.Native.Nat.{_≤_};
 ghost use lib.ListN.{length};
-ghost use Rattle.elect.specs.Leader.{most};
+ghost use Rattle.elect.specs.Leader.{maskOf, rowOf};
 ghost use Rattle.vote.specs.Decide.{firstOf, blockIn, agreements, invalid, count, sideBySide, decide};
-ghost use Rattle.vote.specs.Decide.{tally, tallyOf, outputAfter};
-ghost use Rattle.vote.specs.Groups.{rowOf, Placed, winnerOf, tallied};
+ghost use Rattle.vote.specs.Decide.{misplaced, step, tally, tallyOf, outputAfter};
+ghost use Rattle.vote.specs.Groups.{Placed, winnerOf, tallied};
 
 const FEWEST_REPLICAS: usize = 3;
 
@@ -31,26 +33,22 @@ pub enum Verdict {
     Refused(Refusal),
 }
 
-// Whether the numbers of a vote are not allowed. The factors are judged before they are multiplied.
-fn is_invalid(blocks_len: usize, replicas: usize, block_len: usize, output_len: usize) -> bool
-    ensures { λ r. ⌜ r ≡ invalid «blocks_len» replicas «block_len» «output_len» ⌝ }
+// Whether the numbers of a vote on outputs of up to `longest` bytes are not allowed. The factors are judged before they
+// are multiplied.
+pub fn is_invalid(longest: u32, lent: usize, replicas: usize, len: usize, room: usize) -> bool
+    ensures { λ r. ⌜ r ≡ invalid longest lent replicas len room ⌝ }
 {
-    if (replicas < FEWEST_REPLICAS)
-        | (MOST < replicas)
-        | (block_len < 1)
-        | (LONGEST_BLOCK < block_len)
-    {
+    if (replicas < FEWEST_REPLICAS) | (MOST < replicas) | (len < 1) | (wide(longest) < len) {
         return true;
     }
-    (blocks_len != replicas * block_len) | (output_len < block_len)
+    (lent != replicas * len) | (room < len)
 }
 
-// The first k replicas, a bit each.
-fn first(k: usize) -> u32
-    requires { ⌜ k ≤ most ⌝ }
-    ensures { λ r. ⌜ rowOf r ≡ firstOf k ⌝ }
+// The first replicas, a bit each.
+pub fn first(replicas: usize) -> u32
+    ensures { λ r. ⌜ r ≡ maskOf (firstOf replicas) ⌝ }
 {
-    (1 << k as u32) - 1
+    (1 << least(replicas, MOST) as u32) - 1
 }
 
 // Blocks of one length, one after another.
@@ -100,7 +98,13 @@ pub fn vote(blocks: &[u8], replicas: usize, block_len: usize, output: &mut [u8])
         let d = decide (now (blocks .entry)) replicas «block_len» (length (now (output .entry))) in
         ⌜ (tallyOf r ≡ tally d) × (now (output .exit) ≡ outputAfter d (now (output .entry))) ⌝ }
 {
-    if is_invalid(blocks.len(), replicas, block_len, output.len()) {
+    if is_invalid(
+        LONGEST_BLOCK as u32,
+        blocks.len(),
+        replicas,
+        block_len,
+        output.len(),
+    ) {
         return Verdict::Refused(Refusal::InvalidVote);
     }
     answer(elected(
@@ -109,4 +113,30 @@ pub fn vote(blocks: &[u8], replicas: usize, block_len: usize, output: &mut [u8])
         side_by_side(replicas, block_len),
         output,
     ))
+}
+
+// Whether replicas, voters, bytes or room are not there for a step.
+fn is_misplaced(lent: usize, still: u32, p: Places, room: usize) -> bool
+    ensures { λ r. ⌜ r ≡ misplaced lent still p room ⌝ }
+{
+    if (p.replicas < 1) | (MOST < p.replicas) {
+        return true;
+    }
+    if (still >> p.replicas as u32 != 0) | (p.apart < p.at) {
+        return true;
+    }
+    (p.apart - p.at < p.len) | (lent / p.replicas < p.apart) | (room < p.len)
+}
+
+// A step of a longer vote: those who are still in, a bit each, vote on a part of their outputs. What wins goes to the
+// front of `output`.
+pub fn step(outputs: &[u8], still: u32, p: Places, output: &mut [u8]) -> Verdict
+    ensures { λ r.
+        let d = step (now (outputs .entry)) still p (length (now (output .entry))) in
+        ⌜ (tallyOf r ≡ tally d) × (now (output .exit) ≡ outputAfter d (now (output .entry))) ⌝ }
+{
+    if is_misplaced(outputs.len(), still, p, output.len()) {
+        return Verdict::Refused(Refusal::InvalidVote);
+    }
+    answer(elected(outputs, still, p, output))
 }

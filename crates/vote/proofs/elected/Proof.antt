@@ -3,7 +3,8 @@ use Prim.Native.Nat.{_<_}
 use mathlib.Core.Path.{_≡_, _∙_}
 use borrow.Author.Needs.{needs}
 use Rattle.vote.specs.Decide.{blockIn, agreements}
-use Rattle.vote.specs.Groups.{rowOf, winnerOf}
+use Rattle.elect.specs.Leader.{rowOf}
+use Rattle.vote.specs.Groups.{winnerOf}
 use Rattle.vote.proofs.Decision.{counted, elected-wins, count-lost, count-won, count-put}
 use Rattle.vote.proofs.elected.Statement.{statement}
 use Rattle.vote.proofs.elected.Tie as tie

@@ -1,10 +1,14 @@
 -- `first` meets its contract.
+use Prim.Native.Nat.{_≤_, min}
 use native.Mathlib.Omega.{arith}
 use lib.Pow.{pow-pos, shl-exact}
 use borrow.Author.Needs.{needs}
-use Rattle.vote.proofs.Comparing.{first-row}
+use Rattle.vote.proofs.Comparing.{first-mask}
 use Rattle.vote.proofs.first.Statement.{statement}
 use Rattle.vote.proofs.first.Tie as tie
+
+least-requires : tie.Need-least-requires
+least-requires c κs = search needs
 
 cast-result : tie.Need-cast-result
 cast-result c = search needs
@@ -13,10 +17,13 @@ shl-result : tie.Need-shl-result
 shl-result c = search needs
 
 sub-result : tie.Need-sub-result
-sub-result c = omega (arith, pow-pos (c .args .k), shl-exact {a = 1} 1 (c .args .k) 32 (omega arith) (omega arith))
+sub-result c =
+    let k = c .least .result in
+    let few : k ≤ 16 = omega arith in
+    omega (arith, pow-pos k, shl-exact {a = 1} 1 k 32 (omega arith) (omega arith))
 
 returns : tie.Need-returns
-returns c = first-row (c .args .k) (omega arith)
+returns c = rw (c .least .ensures) (first-mask (c .before .args .replicas))
 
 pub first-spec : {M : Type 1} → statement M
-first-spec = tie.close (tie.spec cast-result shl-result sub-result returns)
+first-spec = tie.close (tie.spec least-requires cast-result shl-result sub-result returns)

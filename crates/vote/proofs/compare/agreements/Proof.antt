@@ -6,7 +6,7 @@ use mathlib.Core.Bool.{false}
 use mathlib.Core.List.{[]}
 use lib.ListN.{replicate}
 use Rattle.vote.specs.Decide.{blockIn, row}
-use Rattle.vote.specs.Groups.{rowOf}
+use Rattle.elect.specs.Leader.{rowOf}
 use Rattle.elect.proofs.Tables.{Filled, filled-none, filled-more, filled-all}
 use Rattle.vote.proofs.Comparing.{agree-row, alone}
 use Rattle.vote.proofs.compare.agreements.Statement.{statement}

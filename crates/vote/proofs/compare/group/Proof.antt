@@ -7,7 +7,8 @@ use mathlib.Core.Path.{_≡_, sym, _∙_}
 use Rattle.search.specs.First.{first}
 use Rattle.search.proofs.First.{first-found, first-past, first-none}
 use Rattle.vote.specs.Decide.{blockIn, agree}
-use Rattle.vote.specs.Groups.{rowOf, groupOf}
+use Rattle.elect.specs.Leader.{rowOf}
+use Rattle.vote.specs.Groups.{groupOf}
 use Rattle.vote.proofs.compare.group.Statement.{statement}
 use Rattle.vote.proofs.compare.group.Tie as tie
 

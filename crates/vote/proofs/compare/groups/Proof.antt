@@ -3,7 +3,8 @@ use Prim.Native.Nat.{_-_}
 use native.Mathlib.Omega.{arith}
 use mathlib.Core.Path.{_∙_}
 use Rattle.vote.specs.Decide.{blockIn}
-use Rattle.vote.specs.Groups.{rowOf, groupOf}
+use Rattle.elect.specs.Leader.{rowOf}
+use Rattle.vote.specs.Groups.{groupOf}
 use borrow.Author.Needs.{needs}
 use Rattle.elect.proofs.Tables.{Filled, filled-more, filled-all, replaced-set}
 use Rattle.vote.proofs.Comparing.{group-le, group-out, groups-none, groups-own}

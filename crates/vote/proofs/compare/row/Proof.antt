@@ -4,7 +4,8 @@ use native.Mathlib.Omega.{arith}
 use mathlib.Core.Path.{sym, _∙_}
 use mathlib.Core.Bool.{false}
 use borrow.Author.Tests.{not-true, not-false}
-use Rattle.vote.specs.Groups.{rowOf, together}
+use Rattle.elect.specs.Leader.{rowOf}
+use Rattle.vote.specs.Groups.{together}
 use Rattle.elect.proofs.Tables.{Filled, filled-none, filled-more, filled-all}
 use Rattle.vote.proofs.compare.row.Statement.{statement}
 use Rattle.vote.proofs.compare.row.Tie as tie
