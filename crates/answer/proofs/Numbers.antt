@@ -6,6 +6,7 @@ use Rattle.answer.specs.declared.Refusal.the-variants.{UnusableSeed, Hea
 use Rattle.answer.specs.declared.Refusal.the-variants.{MalformedRequest, UnsupportedSize, ClassTooSmall}
 use Rattle.answer.specs.declared.Refusal.the-variants.{ClassAtCapacity, OutOfRange, NotASlotStart, NotAllocated}
 use Rattle.answer.specs.declared.Refusal.the-variants.{InvalidVote, NoAgreement, CorruptMetadata, ListTooShort}
+use Rattle.answer.specs.declared.Refusal.the-variants.{InvalidOutputs}
 use Rattle.answer.specs.Reply.{numberOf}
 
 -- a refusal's number is never that of a served request
@@ -24,3 +25,4 @@ refusal-number InvalidVote e = omega arith
 refusal-number NoAgreement e = omega arith
 refusal-number CorruptMetadata e = omega arith
 refusal-number ListTooShort e = omega arith
+refusal-number InvalidOutputs e = omega arith

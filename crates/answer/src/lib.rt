@@ -17,6 +17,7 @@ pub enum Refusal {
     NoAgreement,
     CorruptMetadata,
     ListTooShort,
+    InvalidOutputs,
 }
 
 pub enum Answer {
@@ -43,6 +44,7 @@ impl Refusal {
             Refusal::NoAgreement => 12,
             Refusal::CorruptMetadata => 13,
             Refusal::ListTooShort => 14,
+            Refusal::InvalidOutputs => 15,
         }
     }
 }

@@ -9,16 +9,19 @@ ghost use Rattle.rules.specs.Open.{setup};
 ghost use Rattle.rules.specs.Serve.{lentWith};
 ghost use Rattle.rules.specs.Call.{serve, reading, opening};
 ghost use Rattle.rules.specs.Inspect.{inspection};
-ghost use Rattle.vote.specs.Decide.{decide, tally, outputAfter};
+ghost use Rattle.vote.specs.Decide.{decide, tally, refusedWith, outputAfter};
+ghost use Rattle.whole.specs.Whole.{whole};
 ghost use Rattle.capi.specs.Numbers.{replyIn, tallyIn, readPart, metadataFor, interface};
 ghost use Rattle.capi.specs.Slots.{nthSlot, findSlot, countSlots, storedPattern};
 use answer::Answer;
+use answer::Refusal;
 use geometry::CANARY;
 use geometry::Plan;
 use judge::Judged;
 use numbers::wide;
 use view::Place;
 use vote::Verdict;
+use whole::Consensus;
 
 #[repr(C)]
 pub struct PohelduAnswer {
@@ -134,6 +137,18 @@ pub extern "C" fn poheldu_inspect(heap: &[u8], metadata: &[u8], list: &mut [u32]
     in_numbers(inspect::inspect(heap, metadata, list))
 }
 
+// A vote that is refused names nobody.
+fn refused(refusal: Refusal, value: u32) -> PohelduVerdict
+    ensures { λ r. ⌜ tallyIn r ≡ refusedWith refusal value ⌝ }
+{
+    PohelduVerdict {
+        number: refusal.number(),
+        mask: 0,
+        value,
+        replica: 0,
+    }
+}
+
 #[no_mangle]
 pub extern "C" fn poheldu_vote(
     blocks: &[u8],
@@ -156,12 +171,34 @@ pub extern "C" fn poheldu_vote(
             value: count,
             replica,
         },
-        Verdict::Refused(refusal) => PohelduVerdict {
-            number: refusal.number(),
-            mask: 0,
-            value: 0,
-            replica: 0,
+        Verdict::Refused(refusal) => refused(refusal, 0),
+    }
+}
+
+#[no_mangle]
+pub extern "C" fn poheldu_vote_whole(
+    outputs: &[u8],
+    replicas: usize,
+    len: usize,
+    output: &mut [u8],
+) -> PohelduVerdict
+    ensures { λ r.
+        let voted = whole (now (outputs .entry)) replicas len (now (output .entry)) in
+        ⌜ (tallyIn r ≡ voted .answer) × (now (output .exit) ≡ voted .output) ⌝ }
+{
+    match whole::vote(outputs, replicas, len, output) {
+        Consensus::Agreed {
+            mask,
+            count,
+            replica,
+        } => PohelduVerdict {
+            number: 0,
+            mask,
+            value: count,
+            replica,
         },
+        Consensus::Split { block } => refused(Refusal::NoAgreement, block),
+        Consensus::Refused(refusal) => refused(refusal, 0),
     }
 }
 

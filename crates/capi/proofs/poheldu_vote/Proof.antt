@@ -1,4 +1,5 @@
 -- `capi::poheldu_vote` meets its contract: the numbers are those of the verdict.
+use mathlib.Core.Path.{_∙_}
 use borrow.Author.Needs.{needs}
 use Rattle.capi.proofs.poheldu_vote.Statement.{statement}
 use Rattle.capi.proofs.poheldu_vote.Tie as tie
@@ -12,8 +13,8 @@ enum-known-mask c = search needs
 enum-known-refusal : tie.Need-enum-known-refusal
 enum-known-refusal c = search needs
 
-number-requires : tie.Need-number-requires
-number-requires c κs = search needs
+refused-requires : tie.Need-refused-requires
+refused-requires c κs = search needs
 
 same-length : tie.Need-same-length
 same-length c = search needs
@@ -30,9 +31,7 @@ same-length-2 c = search needs
 returns-2 : tie.Need-returns-2
 returns-2 c =
     let v = c .before .before .before .before .before .before .vote .ensures in
-    let refusal = c .before .before .refusal .given in
-    let number = c .number .ensures in
-    (rw number (rw (refusal .1) at (v .0)), v .1)
+    (c .refused .ensures ∙ rw (c .before .before .refusal .given .1) at (v .0), v .1)
 
 pub poheldu-vote-spec : {M : Type 1} → statement M
 poheldu-vote-spec =
@@ -41,7 +40,7 @@ poheldu-vote-spec =
     vote-requires
     enum-known-mask
     enum-known-refusal
-    number-requires
+    refused-requires
     same-length
     returns
     same-length-2
