@@ -40,8 +40,9 @@
  *
  * Answers    A call ends and answers for any bytes in its buffers, and reads and writes nothing
  *            outside them. Where it is refused, its number is above 0 and its value 0, and no byte
- *            of any buffer has changed. Checks are made in the order in which a function names
- *            them; the first that fails is the answer.
+ *            of any buffer has changed; NO_AGREEMENT of poheldu_vote_whole alone has a value, and
+ *            leaves blocks written. Checks are made in the order in which a function names them;
+ *            the first that fails is the answer.
  * Buffers    A pointer and a length. They need no alignment, but for a list, which is one of
  *            uint32_t. Where objects are to be more than bytes, C asks for a heap without a
  *            declared type, as malloc gives; gcc and clang take an array of uint8_t all the same.
@@ -239,7 +240,7 @@ typedef struct {
 /*
  * number as above; mask: bit r for each winning replica r; value: how many they are; replica: the
  * lowest-numbered of them, so that a display that names a winner does not jump between equal ones.
- * All 0 but the number on refusal.
+ * All 0 but the number on refusal; poheldu_vote_whole says where the value is not.
  */
 typedef struct {
     uint32_t number, mask, value, replica;
@@ -260,7 +261,8 @@ typedef enum {
     POHELDU_INVALID_VOTE = 11,     /* a number of replicas or a length that is not allowed */
     POHELDU_NO_AGREEMENT = 12,     /* no two blocks are equal */
     POHELDU_CORRUPT_METADATA = 13, /* live counts that opening and requests never leave */
-    POHELDU_LIST_TOO_SHORT = 14    /* an inspection finds more slots than its list has room for */
+    POHELDU_LIST_TOO_SHORT = 14,   /* an inspection finds more slots than its list has room for */
+    POHELDU_INVALID_OUTPUTS = 15   /* a whole vote's replicas or a length that is not allowed */
 } poheldu_refusal;
 
 /*
@@ -277,6 +279,7 @@ static inline const char *poheldu_name(uint32_t number)
         "class too small",  "class at capacity", "out of range",
         "not a slot start", "not allocated",     "invalid vote",
         "no agreement",     "corrupt metadata",  "list too short",
+        "invalid outputs",
     };
     return number < sizeof names / sizeof *names ? names[number] : "unknown";
 }
@@ -396,8 +399,8 @@ POHELDU_NODISCARD poheldu_answer poheldu_inspect(const uint8_t *heap, size_t hea
 /*
  * A vote of replicas on a block of output: the content that most replicas share wins, if two or
  * more share it; at equal numbers that of the lowest-numbered replica among those tied. Replicas
- * open their heaps with seeds and a pattern of their own (poheldu_open says why). Refuses
- * INVALID_VOTE, NO_AGREEMENT.
+ * open their heaps with seeds and a pattern of their own (poheldu_open says why). For outputs that
+ * are longer than a block there is poheldu_vote_whole. Refuses INVALID_VOTE, NO_AGREEMENT.
  *
  * blocks, blocks_len  the replicas' blocks, one after another: replicas times block_len bytes
  * replicas            3 to 16
@@ -411,6 +414,39 @@ POHELDU_NODISCARD poheldu_answer poheldu_inspect(const uint8_t *heap, size_t hea
 POHELDU_NODISCARD poheldu_verdict poheldu_vote(const uint8_t *blocks, size_t blocks_len,
                                                size_t replicas, size_t block_len, uint8_t *output,
                                                size_t output_len);
+
+/*
+ * A vote of replicas on whole outputs of one length. It goes through them in blocks of 4,096 bytes,
+ * the last perhaps shorter, and votes on each as poheldu_vote does. A replica that does not win a
+ * block takes no part in later ones, so that two may remain. The answer names those left at the
+ * end: exactly those whose output is the output written. Refuses INVALID_OUTPUTS, NO_AGREEMENT.
+ *
+ * NO_AGREEMENT, where no two of those still in have the same block, is the one refusal that has a
+ * value, the block's number from 0, and that leaves bytes written: the blocks before it. No later
+ * byte is touched; mask and replica are 0.
+ *
+ * An output that more than half of the replicas have wins: of three, any two that share one. With
+ * more than three, what most share need not win, since blocks are voted on one by one. Where seven
+ * have the blocks xp, xp, xp, yq, yq, yr and ys, four have y in front, and yq wins with two.
+ *
+ * outputs, outputs_len  the replicas' outputs, one after another: replicas times length bytes
+ * replicas              3 to 16
+ * length                1 to 1,048,576
+ * output, output_len    at least length bytes; the output of those left goes to its front, further
+ *                       bytes are kept
+ *
+ * Where outputs may differ in length, put each into a buffer of the length that all have room in:
+ * its length in front, so that this is voted on too, and zeros behind. examples/readout.c does so.
+ *
+ *     static uint8_t logs[3][65536], agreed[65536];
+ *     poheldu_verdict v = poheldu_vote_whole(logs[0], sizeof logs, 3, 65536,
+ *                                            agreed, sizeof agreed);
+ *     if (v.number == POHELDU_NO_AGREEMENT)
+ *         fprintf(stderr, "agreed on the first %u bytes alone\n", v.value * 4096);
+ */
+POHELDU_NODISCARD poheldu_verdict poheldu_vote_whole(const uint8_t *outputs, size_t outputs_len,
+                                                     size_t replicas, size_t length,
+                                                     uint8_t *output, size_t output_len);
 
 /*
  * The length of the metadata of a heap of heap_len bytes; 0 where no heap has that length. Where
