@@ -1,6 +1,7 @@
 /*
- * The functions with plain arguments and the macros of include/poheldu.h. Prints each check that fails, and then
- * exits 1. Written for C11 and C++17 alike. Buffers are allocated at their exact length, for tools that watch reads.
+ * The functions with plain arguments, whole votes and the macros of include/poheldu.h. Prints each check that fails,
+ * and then exits 1. Written for C11 and C++17 alike. Buffers are allocated at their exact length, for tools that watch
+ * reads.
  */
 #include <assert.h>
 #include <stdint.h>
@@ -879,6 +880,226 @@ static void seeds_by_half(void)
     EXPECT(moved_by_z(POHELDU_LARGEST_REGION, 8) > 0);
 }
 
+/* ---- whole votes */
+
+enum { BLOCK = 4096, LONGEST_OUTPUT = 1048576, BEHIND = 5, UNWRITTEN = 0xEE };
+
+/* Replicas' outputs, and a buffer for the winner with some room behind; before: what both held before the call. */
+typedef struct {
+    size_t replicas, length, outputs_len, output_len;
+    uint8_t *outputs, *output, *outputs_before, *output_before;
+} whole_vote;
+
+static whole_vote prepared(size_t replicas, size_t length)
+{
+    whole_vote v = {replicas, length, replicas * length, length + BEHIND, NULL, NULL, NULL, NULL};
+    v.outputs = (uint8_t *)allocated(v.outputs_len);
+    v.output = (uint8_t *)allocated(v.output_len);
+    memset(v.outputs, 'a', v.outputs_len);
+    memset(v.output, UNWRITTEN, v.output_len);
+    return v;
+}
+
+static void done(whole_vote v)
+{
+    free(v.outputs);
+    free(v.output);
+    free(v.outputs_before);
+    free(v.output_before);
+}
+
+static uint8_t *output_of(whole_vote v, size_t replica)
+{
+    return v.outputs + replica * v.length;
+}
+
+static poheldu_verdict held(whole_vote *v)
+{
+    free(v->outputs_before);
+    free(v->output_before);
+    v->outputs_before = copy_of(v->outputs, v->outputs_len);
+    v->output_before = copy_of(v->output, v->output_len);
+    return poheldu_vote_whole(v->outputs, v->outputs_len, v->replicas, v->length, v->output, v->output_len);
+}
+
+static int is_verdict(poheldu_verdict v, uint32_t number, uint32_t mask, uint32_t value, uint32_t replica)
+{
+    return v.number == number && v.mask == mask && v.value == value && v.replica == replica;
+}
+
+/* Whether the vote wrote to the front of its output alone, so many bytes at most. */
+static int wrote_at_most(const whole_vote *v, size_t len)
+{
+    return memcmp(v->outputs, v->outputs_before, v->outputs_len) == 0 &&
+           memcmp(v->output + len, v->output_before + len, v->output_len - len) == 0;
+}
+
+/* Outputs as words, one for each replica: each letter fills a block, the last one a block of so many bytes. */
+static whole_vote spelt(const char *words, size_t last)
+{
+    const size_t blocks = strcspn(words, " "), replicas = (strlen(words) + 1) / (blocks + 1);
+    const whole_vote v = prepared(replicas, (blocks - 1) * BLOCK + last);
+    for (size_t r = 0; r < replicas; r++)
+        for (size_t b = 0; b < blocks; b++)
+            memset(output_of(v, r) + b * BLOCK, words[r * (blocks + 1) + b], b + 1 < blocks ? (size_t)BLOCK : last);
+    return v;
+}
+
+/* A vote on such outputs; written: the blocks that it writes, as letters. */
+static void try_words(const char *words, uint32_t number, uint32_t mask, uint32_t value, uint32_t replica,
+                      const char *written)
+{
+    const size_t lasts[] = {1, 2, BLOCK - 1, BLOCK};
+    for (size_t i = 0; i < sizeof lasts / sizeof *lasts; i++) {
+        whole_vote v = spelt(words, lasts[i]);
+        const size_t blocks = strlen(written), whole = blocks * BLOCK, len = whole < v.length ? whole : v.length;
+        size_t at = 0;
+        EXPECT(is_verdict(held(&v), number, mask, value, replica));
+        while (at < len && v.output[at] == (uint8_t)written[at / BLOCK])
+            at++;
+        EXPECT(at == len && wrote_at_most(&v, len));
+        done(v);
+    }
+}
+
+static void whole_votes(void)
+{
+    try_words("a a a", POHELDU_SERVED, 7, 3, 0, "a");
+    try_words("b a a", POHELDU_SERVED, 6, 2, 1, "a");
+    try_words("x b a a b", POHELDU_SERVED, 18, 2, 1, "b"); /* of those tied, the one that comes first */
+    try_words("abc abc abc abc", POHELDU_SERVED, 15, 4, 0, "abc");
+    try_words("a a a a a a a a a a a a a a a a", POHELDU_SERVED, 65535, 16, 0, "a");
+    /* who is out stays out, and counts for nothing: neither for those left nor against them */
+    try_words("ab ab cb", POHELDU_SERVED, 3, 2, 0, "ab");
+    try_words("cb ab ab", POHELDU_SERVED, 6, 2, 1, "ab");
+    try_words("aab aab bcb aab", POHELDU_SERVED, 11, 3, 0, "aab");
+    try_words("ad ab ab bd bd", POHELDU_SERVED, 6, 2, 1, "ab");
+    /* two that are left can still split */
+    try_words("aab aac bbb", POHELDU_NO_AGREEMENT, 0, 2, 0, "aa");
+    try_words("aa ab ba", POHELDU_NO_AGREEMENT, 0, 1, 0, "a");
+    try_words("abc acc add", POHELDU_NO_AGREEMENT, 0, 1, 0, "a");
+    try_words("a b c", POHELDU_NO_AGREEMENT, 0, 0, 0, "");
+    try_words("ax bx cx", POHELDU_NO_AGREEMENT, 0, 0, 0, "");
+    /* what more than half have wins; what most have need not, as the header says */
+    try_words("yq xp yq xp xp", POHELDU_SERVED, 26, 3, 1, "xp");
+    try_words("xp xp xp yq yq yr ys", POHELDU_SERVED, 24, 2, 3, "yq");
+    try_words("yq yr xp xp", POHELDU_NO_AGREEMENT, 0, 1, 0, "y");
+}
+
+/* The longest outputs: the last byte of the last block decides, and that block has number 255. */
+static void longest_whole_votes(void)
+{
+    const size_t most[] = {3, 16};
+    for (size_t i = 0; i < 2; i++) {
+        const uint32_t replicas = (uint32_t)most[i], all = (1u << replicas) - 1;
+        whole_vote v = prepared(replicas, LONGEST_OUTPUT);
+        EXPECT(is_verdict(held(&v), POHELDU_SERVED, all, replicas, 0));
+        EXPECT(wrote_at_most(&v, LONGEST_OUTPUT) && memcmp(v.output, v.outputs, LONGEST_OUTPUT) == 0);
+        output_of(v, 0)[LONGEST_OUTPUT - 1] = 'b';
+        EXPECT(is_verdict(held(&v), POHELDU_SERVED, all - 1, replicas - 1, 1));
+        EXPECT(wrote_at_most(&v, LONGEST_OUTPUT) && v.output[LONGEST_OUTPUT - 1] == 'a');
+        for (uint32_t r = 0; r < replicas; r++)
+            output_of(v, r)[LONGEST_OUTPUT - 1] = (uint8_t)r;
+        memset(v.output, UNWRITTEN, v.output_len);
+        EXPECT(is_verdict(held(&v), POHELDU_NO_AGREEMENT, 0, 255, 0));
+        EXPECT(wrote_at_most(&v, LONGEST_OUTPUT - BLOCK) && memcmp(v.output, v.outputs, LONGEST_OUTPUT - BLOCK) == 0);
+        done(v);
+    }
+}
+
+/* Whether a vote on outputs of which no two are alike is refused for what is lent, not for that. Nothing changes. */
+static int refuses_outputs(size_t replicas, size_t length, size_t outputs_len, size_t output_len)
+{
+    uint8_t *const outputs = (uint8_t *)allocated(outputs_len), *const output = (uint8_t *)allocated(output_len);
+    for (size_t i = 0; i < outputs_len; i++)
+        outputs[i] = (uint8_t)i;
+    memset(output, UNWRITTEN, output_len);
+    uint8_t *const outputs_before = copy_of(outputs, outputs_len), *const before = copy_of(output, output_len);
+    const poheldu_verdict v = poheldu_vote_whole(outputs, outputs_len, replicas, length, output, output_len);
+    EXPECT(memcmp(outputs, outputs_before, outputs_len) == 0 && memcmp(output, before, output_len) == 0);
+    EXPECT(is_verdict(v, v.number == POHELDU_NO_AGREEMENT ? POHELDU_NO_AGREEMENT : POHELDU_INVALID_OUTPUTS, 0, 0, 0));
+    free(before);
+    free(outputs_before);
+    free(output);
+    free(outputs);
+    return v.number == POHELDU_INVALID_OUTPUTS;
+}
+
+static void whole_votes_refused(void)
+{
+    const size_t wraps = SIZE_MAX / 4 + 1; /* four times that is 0 */
+    for (size_t replicas = 0; replicas <= 20; replicas++)
+        for (size_t length = 0; length <= 3; length++)
+            EXPECT(refuses_outputs(replicas, length, replicas * length, 3) ==
+                   (replicas < 3 || replicas > 16 || length < 1));
+    for (size_t replicas = 2; replicas <= 17; replicas++) {
+        EXPECT(refuses_outputs(replicas, LONGEST_OUTPUT + 1, replicas, LONGEST_OUTPUT + 1));
+        EXPECT(refuses_outputs(replicas, 7, replicas * 7 - 1, 7) && refuses_outputs(replicas, 7, replicas * 7 + 1, 7));
+        EXPECT(refuses_outputs(replicas, 7, replicas * 7, 6) && refuses_outputs(replicas, 7, replicas * 7, 0));
+        EXPECT(refuses_outputs(replicas, 7, 7, 7) && refuses_outputs(replicas, 7, 0, 7));
+    }
+    EXPECT(refuses_outputs(3, LONGEST_OUTPUT + 1, 3 * (LONGEST_OUTPUT + 1), LONGEST_OUTPUT + 1));
+    EXPECT(refuses_outputs(3, BLOCK + 1, 3 * (BLOCK + 1), BLOCK)); /* room for a block, and not for all */
+    EXPECT(refuses_outputs(3, SIZE_MAX, 3, 3) && refuses_outputs(SIZE_MAX, 3, 3, 3));
+    EXPECT(refuses_outputs(4, wraps, 0, 3) && refuses_outputs(wraps, 4, 0, 4));
+    EXPECT(is_verdict(poheldu_vote_whole(NULL, 0, 3, 1, NULL, 0), POHELDU_INVALID_OUTPUTS, 0, 0, 0));
+    EXPECT(is_verdict(poheldu_vote_whole(NULL, 0, 0, 0, NULL, 0), POHELDU_INVALID_OUTPUTS, 0, 0, 0));
+    EXPECT(strcmp(poheldu_name(POHELDU_INVALID_OUTPUTS), "invalid outputs") == 0 && POHELDU_INVALID_OUTPUTS == 15);
+}
+
+/* The mask of the replicas whose output is this one, and how many they are. */
+static uint32_t sharers(const whole_vote *v, const uint8_t *output, uint32_t *count)
+{
+    uint32_t mask = 0;
+    *count = 0;
+    for (size_t r = 0; r < v->replicas; r++)
+        if (memcmp(output_of(*v, r), output, v->length) == 0) {
+            mask |= 1u << r;
+            ++*count;
+        }
+    return mask;
+}
+
+/* Of outputs that differ in a few bytes: those left share what is written, nobody else does, and a majority wins. */
+static void random_whole_votes(void)
+{
+    enum { ROUNDS = 400, BLOCKS = 3 };
+    unsigned served = 0, majorities = 0, blocks_written = 0;
+    for (int round = 0; round < ROUNDS; round++) {
+        const uint32_t near = BLOCK * random_below(BLOCKS) + random_below(3);
+        const size_t length = near > 1 ? near - 1 : 1 + random_below(BLOCKS * BLOCK);
+        whole_vote v = prepared(3 + random_below(14), length);
+        for (uint32_t bytes = random_below(12); bytes > 0; bytes--) {
+            const uint32_t at = random_below((uint32_t)length), first = random_below((uint32_t)v.replicas);
+            for (size_t r = first; r < v.replicas; r += 1 + random_below(4))
+                output_of(v, r)[random_below(4) == 0 ? length - 1 : at] = (uint8_t)('b' + random_below(3));
+        }
+        const poheldu_verdict won = held(&v);
+        uint32_t count;
+        const uint8_t *majority = NULL;
+        for (size_t r = 0; r < v.replicas; r++) {
+            sharers(&v, output_of(v, r), &count);
+            majority = 2 * count > v.replicas ? output_of(v, r) : majority;
+        }
+        EXPECT(majority == NULL || (won.number == POHELDU_SERVED && memcmp(v.output, majority, length) == 0));
+        if (won.number == POHELDU_SERVED) {
+            const uint32_t mask = sharers(&v, v.output, &count);
+            EXPECT(wrote_at_most(&v, length) && won.mask == mask && won.value == count && count >= 2);
+            EXPECT((won.mask >> won.replica & 1) == 1 && (won.mask & ((1u << won.replica) - 1)) == 0);
+        } else {
+            const size_t written = (size_t)won.value * BLOCK;
+            EXPECT(is_verdict(won, POHELDU_NO_AGREEMENT, 0, won.value, 0) && written < length);
+            EXPECT(wrote_at_most(&v, written));
+            blocks_written += won.value;
+        }
+        served += won.number == POHELDU_SERVED;
+        majorities += majority != NULL;
+        done(v);
+    }
+    EXPECT(majorities > ROUNDS / 10 && served > majorities + ROUNDS / 10);
+    EXPECT(served < ROUNDS - ROUNDS / 10 && blocks_written > ROUNDS / 10);
+}
+
 /* ---- macros */
 
 typedef uint8_t heap_array[POHELDU_HEAP_BYTES(1024)], metadata_array[POHELDU_METADATA_BYTES(1 << 12)];
@@ -941,6 +1162,10 @@ int main(void)
     copies_within_an_object();
     long_sources();
     random_copies();
+    whole_votes();
+    longest_whole_votes();
+    whole_votes_refused();
+    random_whole_votes();
     printf("%lu checks, %lu failed\n", checks, failures);
     return failures > 0;
 }
