@@ -1,7 +1,7 @@
 /*
  * What include/poheldu.h says in words against the library: its table of how many objects a class takes, the names of
- * its refusals, and which operations there are and which have a count. The first argument is the header's path. Prints
- * what is wrong, and then exits 1.
+ * its refusals, the limits of its votes, and which operations there are and which have a count. The first argument is
+ * the header's path. Prints what is wrong, and then exits 1.
  */
 #include "poheldu.h"
 
@@ -12,7 +12,7 @@
 
 enum { COLUMNS = 6, LINE = 256, OPERATIONS = 16, NO_OBJECTS = -1, PATTERN = 0x5AA55AA5 };
 
-static unsigned cells, names, operations, failures;
+static unsigned cells, names, limits, operations, failures;
 
 static void wrong(const char *what, const char *line)
 {
@@ -131,6 +131,46 @@ static void check_names(FILE *header)
         wrong("a name for a number that no refusal has", poheldu_name(names));
 }
 
+typedef poheldu_verdict vote(const uint8_t *, size_t, size_t, size_t, uint8_t *, size_t);
+
+/* Whether so many replicas may vote on so many bytes each. */
+static int allowed(vote *call, size_t replicas, size_t length)
+{
+    uint8_t *const lent = calloc(replicas + 1, length + 1), *const output = calloc(1, length + 1);
+    if (lent == NULL || output == NULL)
+        abort();
+    const poheldu_verdict v = call(lent, replicas * length, replicas, length, output, length);
+    free(lent);
+    free(output);
+    return v.number == POHELDU_SERVED;
+}
+
+/* The next parameter of this name, which has its limits beside it: replicas 3 to 16. */
+static void read_limits(FILE *header, const char *name, size_t *least, size_t *most)
+{
+    char line[LINE] = "", start[LINE];
+    snprintf(start, sizeof start, " * %s ", name);
+    while (fgets(line, LINE, header) != NULL && strncmp(line, start, strlen(start)) != 0)
+        ;
+    const char *at = line + strlen(start);
+    *least = (size_t)number(&at);
+    at += strlen(" to");
+    *most = (size_t)number(&at);
+    limits += 2;
+}
+
+static void check_limits(FILE *header, vote *call, const char *length_name)
+{
+    size_t fewest, most, shortest, longest;
+    read_limits(header, "replicas", &fewest, &most);
+    read_limits(header, length_name, &shortest, &longest);
+    if (allowed(call, fewest - 1, shortest) || !allowed(call, fewest, shortest) || !allowed(call, most, shortest) ||
+        allowed(call, most + 1, shortest))
+        wrong("other replicas than those of the vote with", length_name);
+    if (allowed(call, fewest, shortest - 1) || !allowed(call, most, longest) || allowed(call, fewest, longest + 1))
+        wrong("another", length_name);
+}
+
 /* Whether the library refuses a request of this operation with this count for what it is made of. */
 static int malformed(unsigned operation, uint32_t count)
 {
@@ -190,9 +230,11 @@ int main(int count, char **arguments)
     }
     check_table(header);
     check_names(header);
+    check_limits(header, poheldu_vote, "block_len");
+    check_limits(header, poheldu_vote_whole, "length");
     check_numbers(header, named);
     check_counts(header, named);
     fclose(header);
-    printf("%u cells, %u names and %u operations, %u wrong\n", cells, names, operations, failures);
+    printf("%u cells, %u names, %u limits and %u operations, %u wrong\n", cells, names, limits, operations, failures);
     return failures > 0 || cells == 0 || names == 0 || operations == 0;
 }
