@@ -56,6 +56,15 @@ extern "C" {
         output_len: usize,
     ) -> Verdict;
 
+    fn poheldu_vote_whole(
+        outputs: *const u8,
+        outputs_len: usize,
+        replicas: usize,
+        length: usize,
+        output: *mut u8,
+        output_len: usize,
+    ) -> Verdict;
+
     fn poheldu_metadata_length(heap_len: usize) -> usize;
 
     fn poheldu_nth_slot(
@@ -132,6 +141,11 @@ pub fn inspect(heap: &[u8], metadata: &[u8], list: &mut [u32]) -> Answer {
 #[inline]
 pub fn vote(blocks: &[u8], replicas: usize, block_len: usize, output: &mut [u8]) -> Verdict {
     vote_with(Empty::Dangling, blocks, replicas, block_len, output)
+}
+
+#[inline]
+pub fn vote_whole(outputs: &[u8], replicas: usize, length: usize, output: &mut [u8]) -> Verdict {
+    vote_whole_with(Empty::Dangling, outputs, replicas, length, output)
 }
 
 #[inline]
@@ -245,6 +259,29 @@ pub fn vote_with(
             blocks.len(),
             replicas,
             block_len,
+            empty.unique(output),
+            output.len(),
+        )
+    }
+}
+
+/// `vote_whole`, with empty slices passed as `empty` says.
+#[inline]
+pub fn vote_whole_with(
+    empty: Empty,
+    outputs: &[u8],
+    replicas: usize,
+    length: usize,
+    output: &mut [u8],
+) -> Verdict {
+    // SAFETY: each pointer is valid for its length, or the length is 0;
+    // `replicas` and `length` are mere numbers that the library judges.
+    unsafe {
+        poheldu_vote_whole(
+            empty.shared(outputs),
+            outputs.len(),
+            replicas,
+            length,
             empty.unique(output),
             output.len(),
         )
