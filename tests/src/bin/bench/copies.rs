@@ -9,10 +9,10 @@ use std::hint::black_box;
 
 const CALLS: usize = 256;
 
-type Memcpy = unsafe extern "C" fn(*mut c_void, *const c_void, usize) -> *mut c_void;
+pub type Memcpy = unsafe extern "C" fn(*mut c_void, *const c_void, usize) -> *mut c_void;
 
 extern "C" {
-    fn memcpy(target: *mut c_void, source: *const c_void, len: usize) -> *mut c_void;
+    pub fn memcpy(target: *mut c_void, source: *const c_void, len: usize) -> *mut c_void;
 }
 
 /// One operation of copying, to an object of the source's size.

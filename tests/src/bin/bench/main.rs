@@ -35,7 +35,7 @@ fn all(benchrun: &str) {
     operations::growth();
     canaries::tables();
     reads::table();
-    votes::table();
+    votes::tables();
     copies::table();
     for region in [65536, 1 << 20] {
         churn::table(region);

@@ -1,5 +1,6 @@
-//! The vote against the second implementation, and against memcmp.
+//! The vote against the second implementation, and against memcmp; whole votes against memcmp and memcpy.
 
+use crate::copies::{memcpy, Memcpy};
 use crate::heap::figure;
 use crate::measure::{head, repeat, row};
 use poheldu_tests::{capi, reference};
@@ -7,6 +8,8 @@ use std::ffi::{c_int, c_void};
 use std::hint::black_box;
 
 const CALLS: usize = 16;
+const WHOLE_CALLS: usize = 4;
+const BLOCK: usize = 4096;
 
 pub type Memcmp = unsafe extern "C" fn(*const c_void, *const c_void, usize) -> c_int;
 
@@ -108,7 +111,64 @@ pub fn refused_row() {
     );
 }
 
-pub fn table() {
+/// What a whole vote cannot do without where all are equal: block by block, each other output is compared with the
+/// first, and the block is copied. Gives how many blocks are equal.
+fn compare_and_copy(
+    (compare, copy): (Memcmp, Memcpy),
+    outputs: &[u8],
+    length: usize,
+    output: &mut [u8],
+) -> usize {
+    let mut count = 0;
+    for (number, target) in output[..length].chunks_mut(BLOCK).enumerate() {
+        let start = number * BLOCK;
+        let block = &outputs[start..start + target.len()];
+        let others = outputs[length..].chunks_exact(length);
+        count += others
+            .filter(|other| equal(compare, block, &other[start..start + target.len()]))
+            .count();
+        let (to, from) = (target.as_mut_ptr().cast(), block.as_ptr().cast());
+        // SAFETY: the target is as long as the block, and lies elsewhere.
+        unsafe { copy(to, from, block.len()) };
+    }
+    count
+}
+
+/// A row for outputs that are equal, but for the last byte of the last one where `differs`.
+fn whole(name: &str, replicas: usize, length: usize, differs: bool) {
+    let mut outputs = vec![7; replicas * length];
+    outputs[replicas * length - 1] -= differs as u8;
+    let (mut ours, mut theirs) = (vec![0; length], vec![0; length]);
+    let library = black_box((memcmp as Memcmp, memcpy as Memcpy));
+    let left = replicas - differs as usize;
+    let verdict = capi::vote_whole(&outputs, replicas, length, &mut ours);
+    assert_eq!((verdict.number, verdict.value as usize), (0, left));
+    let equal_blocks = (replicas - 1) * length.div_ceil(BLOCK) - differs as usize;
+    let count = compare_and_copy(library, &outputs, length, &mut theirs);
+    assert_eq!((count, &theirs), (equal_blocks, &ours));
+    row(
+        name,
+        [
+            &mut || {
+                repeat(WHOLE_CALLS, &&outputs[..], |&outputs| {
+                    black_box(capi::vote_whole(outputs, replicas, length, &mut ours));
+                })
+            },
+            &mut || {
+                repeat(WHOLE_CALLS, &&outputs[..], |&outputs| {
+                    black_box(compare_and_copy(library, outputs, length, &mut theirs));
+                })
+            },
+        ],
+    );
+}
+
+pub fn tables() {
+    blocks_table();
+    whole_table();
+}
+
+fn blocks_table() {
     head(
         "The vote, against memcmp of the same pairs and of all pairs",
         "blocks",
@@ -130,5 +190,20 @@ pub fn table() {
     ] {
         let blocks = blocks(16, 4096, distinct, place);
         vote(&format!("16 of 4,096, {name}"), &blocks, 16, 4096);
+    }
+}
+
+fn whole_table() {
+    const LENGTH: usize = 1 << 20;
+    head(
+        "Whole votes against memcmp and memcpy by blocks (target: at most 1.7 for three, 2.2 for sixteen)",
+        "outputs",
+        &["memcmp and memcpy"],
+    );
+    for replicas in [3, 16] {
+        let name = format!("{replicas} of {}", figure(LENGTH));
+        whole(&format!("{name}, equal"), replicas, LENGTH, false);
+        let differs = format!("{name}, one different, the last byte");
+        whole(&differs, replicas, LENGTH, true);
     }
 }
