@@ -1,5 +1,5 @@
-//! What inputs are made of: the shapes of heaps, requests, and the fields of
-//! metadata.
+//! What inputs are made of: the shapes of heaps, requests, the fields of
+//! metadata, and outputs to vote on.
 
 use crate::random::Random;
 
@@ -16,6 +16,8 @@ pub const FROZEN_Z: [u32; 1] = [0x9068_FFFF];
 pub const FROZEN_W: [u32; 3] = [0x464F_FFFF, 0x8C9F_FFFE, 0xD2EF_FFFD];
 /// The draw of both.
 pub const FROZEN_DRAW: usize = 0x464E_FFFF;
+/// Whole outputs are voted on in blocks of this length.
+pub const BLOCK: usize = 4_096;
 
 /// What inputs need to know of a heap whose regions are `region` bytes long.
 #[derive(Clone, Copy)]
@@ -154,4 +156,19 @@ pub fn change_unseen(shape: Shape, metadata: &[u8], heap: &mut [u8]) {
             }
         }
     }
+}
+
+/// Outputs by what each replica has in each block, a letter each, which stands in
+/// the block's last byte. Blocks are whole, but for the last one of each output.
+pub fn outputs(replicas: &[&str], last: usize) -> Vec<u8> {
+    let mut bytes = Vec::new();
+    for letters in replicas {
+        for (block, letter) in letters.bytes().enumerate() {
+            let is_last = block + 1 == letters.len();
+            let length = if is_last { last } else { BLOCK };
+            bytes.extend((1..length).map(|at| ((at + block) % 251) as u8));
+            bytes.push(letter);
+        }
+    }
+    bytes
 }

@@ -10,7 +10,9 @@
 //! Opening fills every slot with the pattern, and a free its slot: an inspection
 //! finds the clear slots that others have written to since.
 
-use std::ops::Range;
+use std::cmp::Reverse;
+use std::collections::BTreeMap;
+use std::ops::{Range, RangeInclusive};
 
 const CLASSES: usize = 12;
 /// Slots of class c are 2^(3 + c) bytes long.
@@ -29,8 +31,10 @@ const MOST_DRAWS: usize = 32;
 /// Seeds that draws never change, or change once: zero and four others.
 const UNUSABLE_Z: [u32; 2] = [0, 0x9068_FFFF];
 const UNUSABLE_W: [u32; 4] = [0, 0x464F_FFFF, 0x8C9F_FFFE, 0xD2EF_FFFD];
-const MOST_REPLICAS: usize = 16;
+const REPLICAS: RangeInclusive<usize> = 3..=16;
 const LONGEST_BLOCK: usize = 4_096;
+/// The longest output of a whole vote.
+const LONGEST_OUTPUT: usize = 1_048_576;
 
 /// What `open`, `serve` and `inspect` answer: refusal number (0: served) and
 /// value.
@@ -71,7 +75,8 @@ impl Part {
     }
 }
 
-/// What `vote` answers; `value` counts the winners, `replica` is the lowest.
+/// What `vote` and `vote_whole` answer; `value` counts the winners, `replica` is
+/// the lowest. A whole vote without agreement has the block's number as its value.
 #[derive(Clone, Copy, Debug, PartialEq, Eq)]
 #[repr(C)]
 pub struct Verdict {
@@ -79,6 +84,26 @@ pub struct Verdict {
     pub mask: u32,
     pub value: u32,
     pub replica: u32,
+}
+
+impl Verdict {
+    fn won(mask: u32) -> Verdict {
+        Verdict {
+            number: 0,
+            mask,
+            value: mask.count_ones(),
+            replica: mask.trailing_zeros(),
+        }
+    }
+
+    fn refused(refusal: Refusal) -> Verdict {
+        Verdict {
+            number: refusal as u32,
+            mask: 0,
+            value: 0,
+            replica: 0,
+        }
+    }
 }
 
 /// A slot in numbers: its class, its number there, and where its bytes lie.
@@ -110,6 +135,7 @@ enum Refusal {
     NoAgreement = 12,
     CorruptMetadata = 13,
     ListTooShort = 14,
+    InvalidOutputs = 15,
 }
 
 impl From<Result<u32, Refusal>> for Answer {
@@ -156,19 +182,37 @@ pub fn inspect(heap: &[u8], metadata: &[u8], list: &mut [u32]) -> Answer {
 /// Finds the content that most replicas share and copies it to the output.
 pub fn vote(blocks: &[u8], replicas: usize, block_len: usize, output: &mut [u8]) -> Verdict {
     match try_vote(blocks, replicas, block_len, output) {
-        Ok(mask) => Verdict {
-            number: 0,
-            mask,
-            value: mask.count_ones(),
-            replica: mask.trailing_zeros(),
-        },
-        Err(refusal) => Verdict {
-            number: refusal as u32,
-            mask: 0,
-            value: 0,
-            replica: 0,
-        },
+        Ok(mask) => Verdict::won(mask),
+        Err(refusal) => Verdict::refused(refusal),
     }
+}
+
+/// Has replicas vote on whole outputs, block by block, and copies what wins to
+/// the output. Who is not among a block's winners has no vote in later ones.
+pub fn vote_whole(outputs: &[u8], replicas: usize, length: usize, output: &mut [u8]) -> Verdict {
+    let fits = REPLICAS.contains(&replicas)
+        && (1..=LONGEST_OUTPUT).contains(&length)
+        && outputs.len() == replicas * length
+        && output.len() >= length;
+    if !fits {
+        return Verdict::refused(Refusal::InvalidOutputs);
+    }
+    let mut left = (1 << replicas) - 1;
+    for (number, written) in output[..length].chunks_mut(LONGEST_BLOCK).enumerate() {
+        let start = number * LONGEST_BLOCK;
+        let blocks = outputs
+            .chunks_exact(length)
+            .map(|whole| &whole[start..start + written.len()]);
+        let Some((content, mask)) = most_shared(blocks, left) else {
+            return Verdict {
+                value: number as u32,
+                ..Verdict::refused(Refusal::NoAgreement)
+            };
+        };
+        written.copy_from_slice(content);
+        left = mask;
+    }
+    Verdict::won(left)
 }
 
 /// Metadata length for a heap of this length; 0 where that is not allowed.
@@ -715,7 +759,7 @@ fn try_vote(
     block_len: usize,
     output: &mut [u8],
 ) -> Result<u32, Refusal> {
-    let fits = (3..=MOST_REPLICAS).contains(&replicas)
+    let fits = REPLICAS.contains(&replicas)
         && (1..=LONGEST_BLOCK).contains(&block_len)
         && blocks.len() == replicas * block_len
         && output.len() >= block_len;
@@ -758,10 +802,25 @@ fn sharers(blocks: &[u8], block_len: usize, first: usize, block: &[u8]) -> u32 {
         .fold(0, |mask, (replica, _)| mask | 1 << replica)
 }
 
+/// The content that most of the replicas in the mask share, and theirs; none
+/// where no two do. The lowest replica decides a tie.
+fn most_shared<'a>(blocks: impl Iterator<Item = &'a [u8]>, left: u32) -> Option<(&'a [u8], u32)> {
+    let mut by_content: BTreeMap<&[u8], u32> = BTreeMap::new();
+    for (replica, block) in blocks.enumerate() {
+        if left >> replica & 1 == 1 {
+            *by_content.entry(block).or_default() |= 1 << replica;
+        }
+    }
+    let shared = by_content
+        .into_iter()
+        .filter(|(_, mask)| mask.count_ones() > 1);
+    shared.max_by_key(|(_, mask)| (mask.count_ones(), Reverse(mask.trailing_zeros())))
+}
+
 #[cfg(test)]
 mod tests {
     use super::*;
-    use crate::inputs::{set_seeds, FROZEN_W, FROZEN_Z};
+    use crate::inputs::{outputs, set_seeds, BLOCK, FROZEN_W, FROZEN_Z};
 
     const HEAP: usize = 12 * 4_096;
     const METADATA: usize = 190;
@@ -1097,13 +1156,209 @@ mod tests {
     fn vote_without_agreement() {
         let mut output = [9];
         let verdict = vote(&[0x41, 0x42, 0x43], 3, 1, &mut output);
-        let expected = Verdict {
-            number: 12,
+        assert_eq!(verdict, refused_vote(12, 0));
+        assert_eq!(output, [9]);
+    }
+
+    fn refused_vote(number: u32, value: u32) -> Verdict {
+        Verdict {
+            number,
             mask: 0,
-            value: 0,
+            value,
             replica: 0,
-        };
-        assert_eq!(verdict, expected);
+        }
+    }
+
+    /// A whole vote on outputs by their letters (`inputs::outputs`), and what it
+    /// writes: so many blocks of an output. What lies behind them is kept.
+    fn whole(replicas: &[&str], last: usize, expected: Verdict, written: (usize, &str)) {
+        let lent = outputs(replicas, last);
+        let length = lent.len() / replicas.len();
+        let mut after = vec![9; length + 5];
+        let kept = after.clone();
+        let verdict = vote_whole(&lent, replicas.len(), length, &mut after);
+        assert_eq!(verdict, expected, "{replicas:?} {last}");
+        let (blocks, content) = written;
+        let end = length.min(BLOCK * blocks);
+        assert!(
+            after[..end] == outputs(&[content], last)[..end],
+            "{replicas:?} {last}"
+        );
+        assert!(after[end..] == kept[end..], "{replicas:?} {last}");
+    }
+
+    const LAST_BLOCKS: [usize; 4] = [1, 2, 4_095, 4_096];
+
+    #[test]
+    fn whole_vote_of_one_block() {
+        for last in LAST_BLOCKS {
+            whole(&["a", "b", "a"], last, won(5, 2, 0), (1, "a"));
+            whole(&["a", "a", "a", "b"], last, won(7, 3, 0), (1, "a"));
+            whole(&["a", "b", "c"], last, refused_vote(12, 0), (0, "a"));
+        }
+    }
+
+    #[test]
+    fn whole_vote_that_leaves_two() {
+        for last in LAST_BLOCKS {
+            whole(&["aa", "aa", "ba"], last, won(3, 2, 0), (2, "aa"));
+            whole(&["ba", "aa", "aa"], last, won(6, 2, 1), (2, "aa"));
+            whole(&["aaa", "aba", "aaa"], last, won(5, 2, 0), (3, "aaa"));
+            whole(&["aab", "aaa", "aaa"], last, won(6, 2, 1), (3, "aaa"));
+            whole(
+                &["abcd", "xbcd", "axcd", "abxd", "abcd"],
+                last,
+                won(17, 2, 0),
+                (4, "abcd"),
+            );
+        }
+    }
+
+    #[test]
+    fn who_is_out_stays_out() {
+        for last in LAST_BLOCKS {
+            // Replicas 2 to 4 agree in the second block, with each other or with
+            // replica 0.
+            whole(
+                &["aa", "aa", "bb", "cb", "db"],
+                last,
+                won(3, 2, 0),
+                (2, "aa"),
+            );
+            whole(
+                &["aa", "aa", "ba", "ca", "da"],
+                last,
+                won(3, 2, 0),
+                (2, "aa"),
+            );
+            // Two are left and differ, and one of them agrees with who is out.
+            whole(&["aa", "ab", "ba"], last, refused_vote(12, 1), (1, "aa"));
+            whole(
+                &["aab", "aaa", "baa"],
+                last,
+                refused_vote(12, 2),
+                (2, "aaa"),
+            );
+        }
+    }
+
+    #[test]
+    fn whole_vote_without_agreement() {
+        for last in LAST_BLOCKS {
+            whole(&["aa", "ba", "ca"], last, refused_vote(12, 0), (0, "aa"));
+            whole(
+                &["aab", "aca", "ada"],
+                last,
+                refused_vote(12, 1),
+                (1, "aaa"),
+            );
+            whole(
+                &["aaa", "aab", "aac"],
+                last,
+                refused_vote(12, 2),
+                (2, "aaa"),
+            );
+            whole(
+                &["aaaa", "aaba", "abaa"],
+                last,
+                refused_vote(12, 2),
+                (2, "aaaa"),
+            );
+        }
+    }
+
+    #[test]
+    fn whole_vote_with_a_tie() {
+        for last in LAST_BLOCKS {
+            whole(&["aa", "ba", "ba", "aa"], last, won(9, 2, 0), (2, "aa"));
+            whole(
+                &["xa", "ba", "aa", "aa", "ba"],
+                last,
+                won(18, 2, 1),
+                (2, "ba"),
+            );
+            // Four are left and tie; who is out would break the tie.
+            whole(
+                &["aa", "ab", "ab", "aa", "bb"],
+                last,
+                won(9, 2, 0),
+                (2, "aa"),
+            );
+            whole(
+                &["aab", "aac", "bac", "aab", "aac"],
+                last,
+                won(9, 2, 0),
+                (3, "aab"),
+            );
+        }
+    }
+
+    #[test]
+    fn more_than_half_with_one_output_win() {
+        for replicas in 3..=16 {
+            // The others agree with each other everywhere, and with them but for
+            // one block.
+            for first in 0..replicas {
+                for block in 0..3 {
+                    let mut other = *b"aaa";
+                    other[block] = b'b';
+                    let most = replicas / 2 + 1;
+                    let shares = |replica: usize| (replica + replicas - first) % replicas < most;
+                    let other = std::str::from_utf8(&other).expect("letters");
+                    let all: Vec<&str> = (0..replicas)
+                        .map(|replica| if shares(replica) { "aaa" } else { other })
+                        .collect();
+                    let mask = (0..replicas).filter(|&replica| shares(replica));
+                    let mask = mask.fold(0, |mask, replica| mask | 1 << replica);
+                    whole(&all, 1, Verdict::won(mask), (3, "aaa"));
+                }
+            }
+        }
+    }
+
+    #[test]
+    fn outputs_that_are_refused() {
+        let (mebibyte, wraps) = (1_048_576, 1 << 63);
+        for (lent, replicas, length, output_len, number) in [
+            (2, 2, 1, 1, 15),
+            (3, 3, 1, 1, 0),
+            (16, 16, 1, 1, 0),
+            (17, 17, 1, 1, 15),
+            (0, 0, 1, 1, 15),
+            (0, 3, 0, 1, 15),
+            (3 * mebibyte, 3, mebibyte, mebibyte, 0),
+            (3 * mebibyte + 3, 3, mebibyte + 1, mebibyte + 1, 15),
+            (3 * 4_097 - 1, 3, 4_097, 4_097, 15),
+            (3 * 4_097 + 1, 3, 4_097, 4_097, 15),
+            (3 * 4_097, 3, 4_097, 4_097, 0),
+            (3 * 4_097, 3, 4_097, 4_096, 15),
+            (3, 3, 1, 0, 15),
+            (6, 3, 1, 1, 15),
+            (0, 4, wraps, 9, 15),
+            (0, wraps, 4, 9, 15),
+            (2, 3, usize::MAX / 3 + 1, 9, 15),
+            (2, usize::MAX / 3 + 1, 3, 9, 15),
+            (3, (1 << 32) + 3, 1, 9, 15),
+            (3, 3, (1 << 32) + 1, 9, 15),
+        ] {
+            let (lent, mut output) = (vec![b'a'; lent], vec![9; output_len]);
+            let verdict = vote_whole(&lent, replicas, length, &mut output);
+            assert_eq!(verdict.number, number, "{replicas} {length} {output_len}");
+            if number != 0 {
+                assert_eq!(verdict, refused_vote(15, 0), "{replicas} {length}");
+                assert!(output.iter().all(|&byte| byte == 9), "{replicas} {length}");
+            }
+        }
+    }
+
+    #[test]
+    fn outputs_are_judged_before_agreement() {
+        let mut output = [9];
+        assert_eq!(
+            vote_whole(b"abcdef", 3, 2, &mut output),
+            refused_vote(15, 0)
+        );
+        assert_eq!(vote_whole(b"ab", 2, 1, &mut output), refused_vote(15, 0));
         assert_eq!(output, [9]);
     }
 
