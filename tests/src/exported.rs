@@ -118,6 +118,25 @@ pub unsafe extern "C" fn reference_vote(
     )
 }
 
+/// # Safety
+/// As include/poheldu.h asks of `poheldu_vote_whole`.
+#[no_mangle]
+pub unsafe extern "C" fn reference_vote_whole(
+    outputs: *const u8,
+    outputs_len: usize,
+    replicas: usize,
+    length: usize,
+    output: *mut u8,
+    output_len: usize,
+) -> Verdict {
+    reference::vote_whole(
+        shared(outputs, outputs_len),
+        replicas,
+        length,
+        unique(output, output_len),
+    )
+}
+
 #[no_mangle]
 pub extern "C" fn reference_metadata_length(heap_len: usize) -> usize {
     reference::metadata_length(heap_len)
