@@ -39,6 +39,11 @@ pub enum Name {
         block_len: usize,
         output_len: usize,
     },
+    WholeVote {
+        replicas: usize,
+        length: usize,
+        output_len: usize,
+    },
     MetadataLength(usize),
     LookUp {
         heap_len: usize,
@@ -92,6 +97,14 @@ impl Display for Name {
                 output_len,
             } => {
                 writeln!(f, "vote replicas={replicas} block_len={block_len}")?;
+                write!(f, "output of {output_len} bytes")
+            }
+            Name::WholeVote {
+                replicas,
+                length,
+                output_len,
+            } => {
+                writeln!(f, "whole vote replicas={replicas} length={length}")?;
                 write!(f, "output of {output_len} bytes")
             }
             Name::MetadataLength(heap_len) => write!(f, "metadata_length {heap_len}"),

@@ -2,13 +2,14 @@
 
 use crate::tester::Tester;
 use crate::twin::{Lent, Twin};
+use crate::whole;
 use poheldu_tests::capi::Empty;
 use poheldu_tests::inputs::{self, Shape, FROZEN_W, FROZEN_Z};
-use poheldu_tests::reference::{self, Answer, Part};
+use poheldu_tests::reference::{self, Answer, Part, Verdict};
 
-pub const REFUSALS: usize = 15;
+pub const REFUSALS: usize = 16;
 pub const OPERATIONS: usize = 7;
-pub const BUFFERS: usize = 8;
+pub const BUFFERS: usize = 10;
 pub const KINDS: usize = 9;
 pub const STRINGS: usize = 6;
 pub const CORRUPT: usize = 8;
@@ -18,10 +19,14 @@ pub const SEEDS: usize = 8;
 pub const LOOKUPS: usize = 6;
 /// Of two winners the last replica is not the lowest.
 pub const NAMED: usize = 15;
+pub const WHOLES: usize = 9;
+pub const INVALIDS: usize = 8;
 /// Of longer lists the slots are not told apart.
 const MOST_TOLD_APART: usize = 64;
 /// The refusal of metadata that no opening and no request left so.
 pub const CORRUPT_METADATA: u32 = 13;
+/// The refusal of outputs that no whole vote takes.
+pub const INVALID_OUTPUTS: u32 = 15;
 
 /// The kinds of reads that are told apart, in the order they are counted in.
 pub const READ_KINDS: [&str; KINDS] = [
@@ -106,6 +111,33 @@ pub const LOOKUP_KINDS: [&str; LOOKUPS] = [
     "at a slot's start",
     "further into a slot",
     "in no slot",
+];
+
+/// The kinds of whole votes on valid outputs that are told apart, in the order
+/// they are counted in. One may be of several.
+pub const WHOLE_KINDS: [&str; WHOLES] = [
+    "without agreement in block 0",
+    "without agreement in a later block",
+    "without agreement of the two that were left",
+    "that leave two",
+    "with a short last block",
+    "with a last block of one byte",
+    "of several whole blocks",
+    "of 1,048,576 bytes",
+    "with a replica that was out and agrees again",
+];
+
+/// The kinds of refusals with 15 that are told apart, in the order they are
+/// counted in: nothing else is wrong, but for the last one.
+pub const INVALID_KINDS: [&str; INVALIDS] = [
+    "for too few replicas",
+    "for too many replicas",
+    "for outputs of no byte",
+    "for outputs too long",
+    "for too few bytes lent",
+    "for too many bytes lent",
+    "for an output too short",
+    "of numbers whose product wraps to the bytes lent",
 ];
 
 /// Which of `READ_KINDS` a read of `count` bytes was.
@@ -200,6 +232,12 @@ fn listed_kinds(shape: Shape, heap: &[u8], pattern: [u8; 4], offset: usize) -> [
     ]
 }
 
+fn count<const N: usize>(counts: &mut [u64; N], kinds: [bool; N]) {
+    for (count, is_kind) in counts.iter_mut().zip(kinds) {
+        *count += u64::from(is_kind);
+    }
+}
+
 impl Tester {
     pub fn count_seeds(&mut self, number: u32, z: u32, w: u32) {
         let next_to = |frozen: &[u32], x: u32| frozen.iter().any(|value| value.abs_diff(x) == 1);
@@ -262,9 +300,7 @@ impl Tester {
     pub fn count_corrupt(&mut self, heap: &Twin, metadata: &Twin, lent: &Lent) {
         let region = heap.shown / inputs::CLASSES;
         let kinds = corrupt_kinds(Shape { region }, metadata.bytes(), lent.request.bytes());
-        for (count, kind) in self.corrupt.iter_mut().zip(kinds) {
-            *count += u64::from(kind);
-        }
+        count(&mut self.corrupt, kinds);
     }
 
     /// An inspection changes no byte that it reads, so that these still show
@@ -280,9 +316,28 @@ impl Tester {
         for &offset in &list[..value] {
             let pattern = inputs::pattern_of(metadata);
             let kinds = listed_kinds(Shape { region }, heap, pattern, offset as usize);
-            for (count, kind) in self.listed.iter_mut().zip(kinds) {
-                *count += u64::from(kind);
-            }
+            count(&mut self.listed, kinds);
+        }
+    }
+
+    /// A served whole vote leaves just those whose output it wrote.
+    pub fn count_whole(
+        &mut self,
+        outputs: &[u8],
+        replicas: usize,
+        length: usize,
+        output: &[u8],
+        verdict: Verdict,
+    ) {
+        if verdict.number == INVALID_OUTPUTS {
+            let kinds = whole::invalid_kinds(outputs.len(), replicas, length, output.len());
+            count(&mut self.invalids, kinds);
+        } else {
+            whole::expect_written(outputs, length, output, verdict);
+            count(
+                &mut self.wholes,
+                whole::kinds(outputs, length, output, verdict),
+            );
         }
     }
 

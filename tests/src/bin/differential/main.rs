@@ -20,6 +20,7 @@ mod session;
 mod tester;
 mod twin;
 mod votes;
+mod whole;
 
 use poheldu_tests::inputs::Shape;
 use poheldu_tests::random::Random;
@@ -57,6 +58,10 @@ fn main() {
     votes::vote_grid(&mut tester, &mut rng);
     votes::each_lowest(&mut tester);
     votes::huge_votes(&mut tester);
+    whole::by_letters(&mut tester);
+    whole::limits(&mut tester, &mut rng);
+    whole::longest(&mut tester);
+    whole::judged_first(&mut tester);
     while tester.calls < calls {
         runs::random_calls(&mut tester, &mut rng, calls);
         if progress && tester.calls >= next_line {

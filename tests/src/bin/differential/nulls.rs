@@ -55,6 +55,7 @@ fn null_session(tester: &mut Tester, session: &mut Session) {
     session.show_all();
 }
 
+/// Votes, and whole votes on the same.
 fn null_votes(tester: &mut Tester) {
     for (blocks, replicas, block_len, output) in [
         (&b""[..], 3, 1, &b"?"[..]),
@@ -66,7 +67,11 @@ fn null_votes(tester: &mut Tester) {
         (b"", 4, 1 << 62, b"?"),
     ] {
         let (mut blocks, mut output) = (Twin::new(blocks, 0), Twin::new(output, 0));
-        tester.vote(&mut blocks, replicas, block_len, &mut output);
-        tester.vote(&mut blocks, replicas, block_len, &mut output);
+        for _ in 0..2 {
+            tester.vote(&mut blocks, replicas, block_len, &mut output);
+        }
+        for _ in 0..2 {
+            tester.vote_whole(&mut blocks, replicas, block_len, &mut output);
+        }
     }
 }

@@ -1,8 +1,8 @@
 //! What is printed at the end, and what has to have occurred.
 
 use crate::kinds::{
-    CORRUPT_KINDS, INSPECTION_KINDS, LISTED_KINDS, LOOKUP_KINDS, READ_KINDS, SEED_KINDS,
-    STRING_KINDS,
+    CORRUPT_KINDS, INSPECTION_KINDS, INVALID_KINDS, LISTED_KINDS, LOOKUP_KINDS, READ_KINDS,
+    SEED_KINDS, STRING_KINDS, WHOLE_KINDS,
 };
 use crate::stop;
 use crate::tester::Tester;
@@ -17,7 +17,7 @@ pub fn report(tester: &Tester) {
         tester.walks, tester.wraps
     );
     println!(
-        "NULL for heap, metadata, request, source, page, blocks, output, list: {:?}",
+        "NULL for heap, metadata, request, source, page, blocks, output, list, whole outputs, output: {:?}",
         tester.nulls
     );
     report_kinds("reads by the call", &READ_KINDS, &tester.read_calls);
@@ -29,6 +29,8 @@ pub fn report(tester: &Tester) {
     report_kinds("openings", &SEED_KINDS, &tester.seeds);
     report_kinds("lookups", &LOOKUP_KINDS, &tester.lookups);
     println!("votes by the replica named: {:?}", tester.named);
+    report_kinds("whole votes", &WHOLE_KINDS, &tester.wholes);
+    report_kinds("refused with 15", &INVALID_KINDS, &tester.invalids);
     println!(
         "inspections where nobody else wrote: {}, made again with other bytes elsewhere: {}",
         tester.clean, tester.changed
@@ -55,8 +57,9 @@ fn report_kinds(what: &str, kinds: &[&str], counts: &[u64]) {
 }
 
 /// Every refusal number, operation, walk, NULL, kind of read, of string, of
-/// refusal with 13, of inspection, of listed slot, of seeds and of lookup,
-/// replica that can be named, and size at an edge has to occur.
+/// refusal with 13, of inspection, of listed slot, of seeds, of lookup, of whole
+/// vote and of refusal with 15, replica that can be named, and size at an edge has
+/// to occur.
 fn require_coverage(tester: &Tester) {
     let seen = [
         &tester.counts[..],
@@ -73,6 +76,8 @@ fn require_coverage(tester: &Tester) {
         &tester.seeds,
         &tester.lookups,
         &tester.named,
+        &tester.wholes,
+        &tester.invalids,
         &[tester.clean, tester.changed],
         &[tester.walks, tester.wraps],
     ];

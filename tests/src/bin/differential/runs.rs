@@ -7,6 +7,7 @@ use crate::session::{Session, ALLOCATE, COPY_PADDED, READ};
 use crate::tester::Tester;
 use crate::twin::Twin;
 use crate::votes;
+use crate::whole;
 use poheldu_tests::inputs::{self, Shape, CLASSES};
 use poheldu_tests::random::Random;
 use poheldu_tests::reference::Answer;
@@ -17,7 +18,7 @@ pub fn random_calls(tester: &mut Tester, rng: &mut Random, calls: u64) {
         1 => (0..20).for_each(|_| {
             tester.metadata_length(metadata::any_length(rng));
         }),
-        2..=5 => (0..100).for_each(|_| random_vote(tester, rng)),
+        2..=5 => random_votes(tester, rng),
         _ => random_session(tester, rng, calls),
     }
 }
@@ -26,12 +27,25 @@ fn random_guard(rng: &mut Random) -> usize {
     rng.pick(&[0, 16])
 }
 
+fn random_votes(tester: &mut Tester, rng: &mut Random) {
+    (0..90).for_each(|_| random_vote(tester, rng));
+    (0..10).for_each(|_| random_whole_vote(tester, rng));
+}
+
 fn random_vote(tester: &mut Tester, rng: &mut Random) {
     let vote = votes::vote(rng);
     let guard = random_guard(rng);
-    let mut blocks = Twin::new(&vote.blocks, guard);
+    let mut blocks = Twin::new(&vote.outputs, guard);
     let mut output = Twin::new(&vote.output, guard);
-    tester.vote(&mut blocks, vote.replicas, vote.block_len, &mut output);
+    tester.vote(&mut blocks, vote.replicas, vote.length, &mut output);
+}
+
+fn random_whole_vote(tester: &mut Tester, rng: &mut Random) {
+    let vote = whole::whole_vote(rng);
+    let guard = random_guard(rng);
+    let mut outputs = Twin::new(&vote.outputs, guard);
+    let mut output = Twin::new(&vote.output, guard);
+    tester.vote_whole(&mut outputs, vote.replicas, vote.length, &mut output);
 }
 
 /// Calls on buffers whose lengths seldom belong together.

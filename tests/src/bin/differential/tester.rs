@@ -3,8 +3,8 @@
 
 use crate::differences::{Call, Name};
 use crate::kinds::{
-    self, BUFFERS, CORRUPT, CORRUPT_METADATA, INSPECTIONS, KINDS, LISTED, LOOKUPS, NAMED,
-    OPERATIONS, REFUSALS, SEEDS, STRINGS,
+    self, BUFFERS, CORRUPT, CORRUPT_METADATA, INSPECTIONS, INVALIDS, KINDS, LISTED, LOOKUPS, NAMED,
+    OPERATIONS, REFUSALS, SEEDS, STRINGS, WHOLES,
 };
 use crate::lookups::{Asked, Found};
 use crate::twin::{Lent, Twin};
@@ -41,6 +41,10 @@ pub struct Tester {
     pub lookups: [u64; LOOKUPS],
     /// Served votes by the replica that they name.
     pub named: [u64; NAMED],
+    /// Whole votes that are served or without agreement, of each kind.
+    pub wholes: [u64; WHOLES],
+    /// Whole votes refused with 15, of each kind.
+    pub invalids: [u64; INVALIDS],
     /// Inspections in runs from an opening in which nobody else wrote.
     pub clean: u64,
     /// Inspections that list something, made again with other bytes in live slots
@@ -51,7 +55,7 @@ pub struct Tester {
     /// Walks that went past the last slot.
     pub wraps: u64,
     /// Empty buffers passed as NULL: heap, metadata, request, source, page,
-    /// blocks, output, list.
+    /// blocks, output, list, whole outputs, whole output.
     pub nulls: [u64; BUFFERS],
     before: Vec<u8>,
 }
@@ -74,6 +78,8 @@ impl Tester {
             seeds: [0; SEEDS],
             lookups: [0; LOOKUPS],
             named: [0; NAMED],
+            wholes: [0; WHOLES],
+            invalids: [0; INVALIDS],
             clean: 0,
             changed: 0,
             walks: 0,
@@ -235,6 +241,35 @@ impl Tester {
         if verdict.number == 0 {
             self.named[verdict.replica as usize] += 1;
         }
+        verdict
+    }
+
+    pub fn vote_whole(
+        &mut self,
+        outputs: &mut Twin,
+        replicas: usize,
+        length: usize,
+        output: &mut Twin,
+    ) -> Verdict {
+        let empty = self.next_call(&[]);
+        self.count_nulls(empty, &[(8, outputs.shown), (9, output.shown)]);
+        let (outputs_a, outputs_b) = outputs.parts();
+        let (output_a, output_b) = output.parts();
+        let expected = reference::vote_whole(outputs_a, replicas, length, output_a);
+        let verdict = capi::vote_whole_with(empty, outputs_b, replicas, length, output_b);
+        let name = Name::WholeVote {
+            replicas,
+            length,
+            output_len: output.shown,
+        };
+        let call = Call {
+            name,
+            buffers: &[("outputs", outputs.bytes())],
+        };
+        self.check(&call, expected, verdict);
+        self.check_bytes(&call, &[("outputs", outputs), ("output", output)]);
+        self.counts[verdict.number as usize] += 1;
+        self.count_whole(outputs.bytes(), replicas, length, output.bytes(), verdict);
         verdict
     }
 

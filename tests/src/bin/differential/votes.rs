@@ -1,8 +1,10 @@
 //! Votes: every number of replicas, random blocks, and numbers that no buffer has.
+//! Whole votes take some of the inputs too.
 
 use crate::tester::Tester;
 use crate::twin::Twin;
 use poheldu_tests::random::Random;
+use std::ops::Range;
 
 pub const HUGE: [usize; 10] = [
     1 << 32,
@@ -47,25 +49,29 @@ pub fn each_lowest(tester: &mut Tester) {
     }
 }
 
-/// Numbers near 2^32, 2^63 and 2^64 with buffers of a few bytes.
+/// Numbers near 2^32, 2^63 and 2^64 with buffers of a few bytes, as votes and as
+/// whole votes.
 pub fn huge_votes(tester: &mut Tester) {
     for huge in HUGE {
         for other in [0, 1, 2, 3, 4, 1 << 32, 1 << 63, usize::MAX] {
             for len in [0, 3, 4] {
                 let mut blocks = Twin::new(&b"AAAA"[..len], 0);
                 let mut output = Twin::new(b"????", 0);
-                tester.vote(&mut blocks, huge, other, &mut output);
-                tester.vote(&mut blocks, other, huge, &mut output);
+                for (replicas, len) in [(huge, other), (other, huge)] {
+                    tester.vote(&mut blocks, replicas, len, &mut output);
+                    tester.vote_whole(&mut blocks, replicas, len, &mut output);
+                }
             }
         }
     }
 }
 
-/// The inputs of a vote: blocks, replicas, block length, output.
+/// The inputs of a vote, on blocks or on whole outputs: these, how many, the
+/// length of one, and the output.
 pub struct Vote {
-    pub blocks: Vec<u8>,
+    pub outputs: Vec<u8>,
     pub replicas: usize,
-    pub block_len: usize,
+    pub length: usize,
     pub output: Vec<u8>,
 }
 
@@ -73,20 +79,29 @@ pub fn vote(rng: &mut Random) -> Vote {
     if rng.once_in(8) {
         return huge_vote(rng);
     }
-    let replicas = match rng.below(6) {
+    let replicas = replica_count(rng);
+    let block_len = block_length(rng);
+    let blocks = replica_blocks(rng, replicas, block_len);
+    lend(rng, blocks, replicas, block_len)
+}
+
+pub fn replica_count(rng: &mut Random) -> usize {
+    match rng.below(6) {
         0 => rng.below(18),
         _ => rng.between(3, 16),
-    };
-    let block_len = block_length(rng);
-    let mut blocks = replica_blocks(rng, replicas, block_len);
-    if rng.once_in(12) {
-        blocks.resize(wrong_length(rng, blocks.len(), block_len), 7);
     }
-    let output_len = output_length(rng, block_len);
+}
+
+/// Outputs that are lent whole, seldom not, and an output for the winner's.
+pub fn lend(rng: &mut Random, mut outputs: Vec<u8>, replicas: usize, length: usize) -> Vote {
+    if rng.once_in(12) {
+        outputs.resize(wrong_length(rng, outputs.len(), length), 7);
+    }
+    let output_len = output_length(rng, length);
     Vote {
-        blocks,
+        outputs,
         replicas,
-        block_len,
+        length,
         output: rng.bytes(output_len),
     }
 }
@@ -106,54 +121,58 @@ fn block_length(rng: &mut Random) -> usize {
 
 /// Few distinct contents, which differ in one byte only.
 pub fn replica_blocks(rng: &mut Random, replicas: usize, block_len: usize) -> Vec<u8> {
-    let common = rng.bytes(block_len);
+    let mut blocks = rng.bytes(block_len).repeat(replicas);
+    differ(rng, &mut blocks, block_len, 0..block_len);
+    blocks
+}
+
+/// Gives equal outputs few distinct contents, which differ in one byte of a block
+/// only.
+pub fn differ(rng: &mut Random, outputs: &mut [u8], length: usize, block: Range<usize>) {
+    if block.is_empty() {
+        return;
+    }
     let distinct = rng.pick(&[1, 2, 2, 3, 4, 5, 8, 17]);
     let at = match rng.below(3) {
-        0 => 0,
-        1 => block_len.saturating_sub(1),
-        _ => rng.below(block_len.max(1)),
+        0 => block.start,
+        1 => block.end - 1,
+        _ => rng.between(block.start, block.end - 1),
     };
-    let mut blocks = Vec::with_capacity(replicas * block_len);
-    for replica in 0..replicas {
-        let mut block = common.clone();
+    for (replica, output) in outputs.chunks_exact_mut(length).enumerate() {
         let kind = match distinct {
             17 => replica,
             _ => rng.below(distinct),
         };
-        if let Some(byte) = block.get_mut(at) {
-            *byte ^= kind as u8;
-        }
-        blocks.extend(block);
+        output[at] ^= kind as u8;
     }
-    blocks
 }
 
-fn wrong_length(rng: &mut Random, right: usize, block_len: usize) -> usize {
+fn wrong_length(rng: &mut Random, right: usize, length: usize) -> usize {
     rng.pick(&[
         0,
         right + 1,
         right.saturating_sub(1),
-        right + block_len,
-        right.saturating_sub(block_len),
+        right + length,
+        right.saturating_sub(length),
     ])
 }
 
-fn output_length(rng: &mut Random, block_len: usize) -> usize {
+fn output_length(rng: &mut Random, length: usize) -> usize {
     match rng.below(14) {
-        0 => block_len.saturating_sub(1),
+        0 => length.saturating_sub(1),
         1 => 0,
-        2 => rng.below(block_len + 1),
-        3 => block_len + 1,
-        4 => block_len + rng.below(300),
-        _ => block_len,
+        2 => rng.below(length + 1),
+        3 => length + 1,
+        4 => length + rng.below(300),
+        _ => length,
     }
 }
 
 /// Numbers near 2^32, 2^63 and 2^64 beside small buffers; often their product
 /// wraps to the buffer's length.
-fn huge_vote(rng: &mut Random) -> Vote {
+pub fn huge_vote(rng: &mut Random) -> Vote {
     let small = rng.between(1, 16);
-    let (replicas, block_len) = match rng.below(6) {
+    let (replicas, length) = match rng.below(6) {
         0 => (rng.pick(&HUGE), small),
         1 => (small, rng.pick(&HUGE)),
         2 => (rng.pick(&HUGE), rng.pick(&HUGE)),
@@ -161,14 +180,14 @@ fn huge_vote(rng: &mut Random) -> Vote {
         4 => (wrapping_partner(rng, small), small),
         _ => ((rng.below(3) << 32) + 3, (rng.below(3) << 32) + small),
     };
-    let product = replicas.wrapping_mul(block_len);
-    let low = (replicas & 0xFF) * (block_len & 0xFF);
+    let product = replicas.wrapping_mul(length);
+    let low = (replicas & 0xFF) * (length & 0xFF);
     let len = if product <= 256 { product } else { low % 4_096 };
     let output_len = rng.below(64);
     Vote {
-        blocks: vec![rng.byte(); len],
+        outputs: vec![rng.byte(); len],
         replicas,
-        block_len,
+        length,
         output: rng.bytes(output_len),
     }
 }
