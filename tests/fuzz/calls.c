@@ -7,7 +7,7 @@
 #include <stdlib.h>
 #include <string.h>
 
-enum { NUMBERS = POHELDU_LIST_TOO_SHORT + 1, OPERATIONS = 7, CLASSES = 12 };
+enum { NUMBERS = POHELDU_INVALID_OUTPUTS + 1, OPERATIONS = 7, CLASSES = 12 };
 
 /* Inspections that are told apart: by what they list, by what their list lacks, and those refused for a count. */
 enum { NOTHING, WITH_ROOM, JUST_ENOUGH, ONE_TOO_FEW, FEWER, CORRUPT, INSPECTIONS };
@@ -17,6 +17,9 @@ enum { UNKNOWN, NUMBERED, NOT_NUMBERED, AT_START, FURTHER_ON, IN_NONE, LOOKUPS }
 
 /* Seeds that are told apart: those refused for a half, and those served with what is frozen in the other half. */
 enum { ZERO_Z, ZERO_W, FROZEN_Z, FROZEN_W, EXCHANGED = FROZEN_W + 3, SEEDS };
+
+/* Whole votes that are told apart: by the block that finds no agreement; those served, by who is left and by how their outputs end. */
+enum { SPLIT_FIRST, SPLIT_LATER, TWO_LEFT, AGREES_AGAIN, SHORT_LAST, ONE_BYTE_LAST, WHOLE_BLOCKS, WHOLES };
 
 static struct {
     uint64_t numbers[NUMBERS];   /* answers, by refusal number */
@@ -30,6 +33,7 @@ static struct {
     uint64_t seeds[SEEDS]; /* openings of right lengths */
     uint64_t lookups[LOOKUPS];
     uint64_t named[2]; /* served votes that name replica 0, and another one */
+    uint64_t wholes[WHOLES];
 } seen;
 
 /* ---- differences */
@@ -90,11 +94,11 @@ static void require_same_part(poheldu_part ours, poheldu_part theirs, buffers le
     stop(lent);
 }
 
-static void require_same_verdict(poheldu_verdict ours, poheldu_verdict theirs, buffers lent)
+static void require_same_verdict(poheldu_verdict ours, poheldu_verdict theirs, const char *call, buffers lent)
 {
     if (ours.number == theirs.number && ours.mask == theirs.mask && ours.value == theirs.value && ours.replica == theirs.replica && all_equal(lent))
         return;
-    fprintf(stderr, "difference at a vote: library answers %" PRIu32 ", mask %" PRIx32 ", value %" PRIu32 ", replica %" PRIu32, ours.number,
+    fprintf(stderr, "difference at %s: library answers %" PRIu32 ", mask %" PRIx32 ", value %" PRIu32 ", replica %" PRIu32, call, ours.number,
             ours.mask, ours.value, ours.replica);
     fprintf(stderr, "; second implementation %" PRIu32 ", mask %" PRIx32 ", value %" PRIu32 ", replica %" PRIu32 "\n", theirs.number, theirs.mask,
             theirs.value, theirs.replica);
@@ -176,6 +180,27 @@ static void count_inspection(poheldu_answer a, size_t list_len, size_t hits)
         seen.inspected[CORRUPT]++;
 }
 
+/* A replica that is not left differs somewhere, though not in the last block where it agrees with what was written. */
+static bool agrees_again(uint32_t left, const twin *outputs, size_t length, const twin *output)
+{
+    const size_t last = (length - 1) / BLOCK * BLOCK;
+    const uint8_t *const written = twin_ours(output) + last;
+    bool again = false;
+    for (size_t replica = 0, at = last; at < outputs->len; replica++, at += length)
+        again = again || ((left >> replica & 1) == 0 && memcmp(twin_ours(outputs) + at, written, length - last) == 0);
+    return again;
+}
+
+static void count_whole(poheldu_verdict v, const twin *outputs, size_t length, const twin *output)
+{
+    const size_t last = length % BLOCK;
+    seen.wholes[TWO_LEFT] += v.value == 2;
+    if (length <= BLOCK)
+        return;
+    seen.wholes[last == 0 ? WHOLE_BLOCKS : last == 1 ? ONE_BYTE_LAST : SHORT_LAST]++;
+    seen.wholes[AGREES_AGAIN] += agrees_again(v.mask, outputs, length, output);
+}
+
 bool calls_saw_all(void)
 {
     bool all = seen.walks > 0 && seen.of_nothing > 0;
@@ -197,7 +222,19 @@ bool calls_saw_all(void)
         all = all && seen.lookups[i] > 0;
     for (int i = 0; i < 2; i++)
         all = all && seen.named[i] > 0;
+    for (int i = 0; i < WHOLES; i++)
+        all = all && seen.wholes[i] > 0;
     return all;
+}
+
+static void report_wholes(void)
+{
+    const uint64_t *const wholes = seen.wholes;
+    fprintf(stderr, "fuzz: whole votes without agreement in block 0: %" PRIu64 ", in a later one: %" PRIu64, wholes[SPLIT_FIRST],
+            wholes[SPLIT_LATER]);
+    fprintf(stderr, "; that leave two: %" PRIu64 ", where one that was out agrees again: %" PRIu64, wholes[TWO_LEFT], wholes[AGREES_AGAIN]);
+    fprintf(stderr, "; with a short last block: %" PRIu64 ", of one byte: %" PRIu64 ", of whole blocks: %" PRIu64 "\n", wholes[SHORT_LAST],
+            wholes[ONE_BYTE_LAST], wholes[WHOLE_BLOCKS]);
 }
 
 void calls_report(void)
@@ -231,6 +268,7 @@ void calls_report(void)
     fprintf(stderr, "; at a slot's start: %" PRIu64 ", further on: %" PRIu64 ", in none: %" PRIu64 "\n", seen.lookups[AT_START],
             seen.lookups[FURTHER_ON], seen.lookups[IN_NONE]);
     fprintf(stderr, "fuzz: votes that name replica 0: %" PRIu64 ", another one: %" PRIu64 "\n", seen.named[0], seen.named[1]);
+    report_wholes();
     fprintf(stderr, "fuzz: %" PRIu64 " calls, %" PRIu64 " of them requests\n", calls, seen.requests);
 }
 
@@ -303,10 +341,22 @@ void call_vote(const twin *blocks, size_t replicas, size_t block_len, const twin
 {
     const poheldu_verdict ours = poheldu_vote(twin_ours(blocks), blocks->len, replicas, block_len, twin_ours(output), output->len);
     const poheldu_verdict theirs = reference_vote(twin_theirs(blocks), blocks->len, replicas, block_len, twin_theirs(output), output->len);
-    require_same_verdict(ours, theirs, BUFFERS(blocks, output));
+    require_same_verdict(ours, theirs, "a vote", BUFFERS(blocks, output));
     seen.numbers[ours.number]++;
     if (ours.number == POHELDU_SERVED)
         seen.named[ours.replica > 0]++;
+}
+
+void call_vote_whole(const twin *outputs, size_t replicas, size_t length, const twin *output)
+{
+    const poheldu_verdict ours = poheldu_vote_whole(twin_ours(outputs), outputs->len, replicas, length, twin_ours(output), output->len);
+    const poheldu_verdict theirs = reference_vote_whole(twin_theirs(outputs), outputs->len, replicas, length, twin_theirs(output), output->len);
+    require_same_verdict(ours, theirs, "a whole vote", BUFFERS(outputs, output));
+    seen.numbers[ours.number]++;
+    if (ours.number == POHELDU_NO_AGREEMENT)
+        seen.wholes[ours.value == 0 ? SPLIT_FIRST : SPLIT_LATER]++;
+    if (ours.number == POHELDU_SERVED)
+        count_whole(ours, outputs, length, output);
 }
 
 void call_metadata_length(size_t heap_len)

@@ -18,7 +18,7 @@ static const size_t region_lengths[REGIONS] = {1024, 4096, 2048, LONGEST_REGION}
 
 static struct {
     twin heaps[REGIONS], metadata[REGIONS];
-    twin request, source, page, blocks, output, list;
+    twin request, source, page, blocks, output, list, outputs, whole;
 } made;
 
 /* ---- steps */
@@ -131,6 +131,9 @@ static void step(run *r)
     case 13:
         look_up_any(r);
         break;
+    case 14:
+        vote_whole_any(r);
+        break;
     default:
         serve_any(r);
     }
@@ -149,8 +152,10 @@ static void make_buffers(void)
     made.source = twin_new("source", LONGEST_SOURCE);
     made.page = twin_new("page", LONGEST_PAGE);
     made.blocks = twin_new("blocks", MOST_REPLICAS * LONGEST_BLOCK);
-    made.output = twin_new("output", LONGEST_OUTPUT);
+    made.output = twin_new("output", LONGEST_BLOCK + SPARE_OUTPUT);
     made.list = twin_new("list", LONGEST_LIST * sizeof(uint32_t));
+    made.outputs = twin_new("whole outputs", MOST_REPLICAS * LONGEST_WHOLE);
+    made.whole = twin_new("whole output", LONGEST_WHOLE + SPARE_OUTPUT);
 }
 
 /* At which end of its room each buffer lies. */
@@ -172,6 +177,8 @@ static run new_run(const uint8_t *data, size_t size)
     place(&made.source, (ends & 8) == 0, 0);
     place(&made.blocks, (ends & 16) == 0, 0);
     place(&made.output, (ends & 32) == 0, 0);
+    place(&made.outputs, (ends & 16) == 0, 0);
+    place(&made.whole, (ends & 32) == 0, 0);
     place(&made.page, (ends & 64) == 0, 0);
     place(&made.list, (ends & 128) == 0, 0);
     return (run){.input = input,
@@ -182,7 +189,9 @@ static run new_run(const uint8_t *data, size_t size)
                  .page = &made.page,
                  .blocks = &made.blocks,
                  .output = &made.output,
-                 .list = &made.list};
+                 .list = &made.list,
+                 .outputs = &made.outputs,
+                 .whole = &made.whole};
 }
 
 static void run_all(run *r)

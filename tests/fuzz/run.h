@@ -14,8 +14,9 @@ enum {
     LONGEST_SOURCE = LARGEST_SIZE + 256,
     LONGEST_PAGE = 1025,
     MOST_REPLICAS = 17,
-    LONGEST_BLOCK = 4097,
-    LONGEST_OUTPUT = LONGEST_BLOCK + 64,
+    LONGEST_BLOCK = BLOCK + 1,
+    LONGEST_WHOLE = 2 * BLOCK + 2,
+    SPARE_OUTPUT = 64,
     LONGEST_LIST = MOST_LISTED + 8,
     REMEMBERED = 32,
 };
@@ -25,6 +26,7 @@ typedef struct {
     size_t region; /* the length of a class's region */
     lent_heap lent;
     twin *request, *source, *page, *blocks, *output, *list;
+    twin *outputs, *whole; /* of a whole vote */
     uint32_t allocated[REMEMBERED]; /* offsets that allocations gave, freed ones too */
     size_t allocations;
     bool clean; /* nobody but a served opening and requests wrote to clear slots */
@@ -65,7 +67,8 @@ void scribble(run *r);
 void inspect_any(run *r);
 void look_up_any(run *r);
 
-/* Votes (votes.c). */
+/* Votes (votes.c): on blocks, and on whole outputs. */
 void vote_any(run *r);
+void vote_whole_any(run *r);
 
 #endif

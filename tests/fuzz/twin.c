@@ -63,6 +63,18 @@ void twin_fill(twin *t, uint8_t salt)
         memcpy(t->theirs + t->start, t->ours + t->start, t->len);
 }
 
+void twin_fill_alike(twin *t, size_t len)
+{
+    twin first = *t;
+    first.len = len < t->len ? len : t->len;
+    twin_fill(&first, 0);
+    for (size_t at = first.len; at < t->len; at += len) {
+        const size_t size = len < t->len - at ? len : t->len - at;
+        memcpy(t->ours + t->start + at, t->ours + t->start, size);
+        memcpy(t->theirs + t->start + at, t->ours + t->start, size);
+    }
+}
+
 void twin_set(twin *t, size_t at, uint8_t value)
 {
     if (at >= t->len)

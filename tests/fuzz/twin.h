@@ -30,6 +30,9 @@ uint8_t *twin_theirs(const twin *t);
 /* Bytes that differ from their neighbours and are never zero, so that a copy to a wrong place shows. */
 void twin_fill(twin *t, uint8_t salt);
 
+/* Such bytes for the first len, and the same for every len that follow: outputs that are equal. */
+void twin_fill_alike(twin *t, size_t len);
+
 /* Sets a byte of the part in both; or four, the lowest first. */
 void twin_set(twin *t, size_t at, uint8_t value);
 void twin_set_word(twin *t, size_t at, uint32_t word);
