@@ -1,6 +1,6 @@
 //! Writes the input of the program `conformance` to standard output, from cases as text: `cases FILE..`, the files in their order.
 //!
-//! A case begins with a line that opens a heap, and goes on with lines of its source, of its requests and of its vote:
+//! A case begins with a line that opens a heap, and goes on with lines of its source, of its requests and of its votes:
 //!
 //!     open heap=12*4096 z=1 w=1 pattern=0x07050301
 //!     source "Bertrand\0"
@@ -10,10 +10,12 @@
 //!   hexadecimal (0x), and may be products.
 //! - `source "TEXT"`: bytes that every request of the case is lent; `\0`, `\\` and `\"` stand for a zero byte, a backslash and a
 //!   quote. `source letters N`: N bytes, the letters A to Z over and over. A further line's bytes come after those before.
+//! - `source-at N "TEXT"`: from byte N of the last source line on, these bytes in place of those that it has there.
 //! - Requests in the words of `assemble`, several of them in a line with `;` between: place SIZE, free OFFSET, measure OFFSET,
 //!   copy OFFSET, text OFFSET, counted OFFSET COUNT, read OFFSET COUNT. `bytes 07 00000000 ..`: these, in hexadecimal, as they
 //!   are, and so malformed requests too. `N times REQUEST`: it, N times.
-//! - `vote REPLICAS LENGTH`: so many replicas vote on the source, in blocks of so many bytes. Without such a line both are 0.
+//! - `vote REPLICAS LENGTH`: so many replicas vote on the source, so many bytes of each: as blocks, and as whole outputs. Without such a
+//!   line both numbers are 0.
 //! - `source-length N`, `request-count N`: what the header says in place of what is there.
 //! - What comes after `#` is a comment, unless it stands between quotes; a line may be empty.
 //!
@@ -36,10 +38,12 @@ type Read<T> = Result<T, String>;
 struct Case {
     opened_with: [u32; 4],
     source: Vec<u8>,
+    /// Where the last line of the source begins in it.
+    last_line: usize,
     requests: Vec<u8>,
     source_length: Option<u32>,
     request_count: Option<u32>,
-    /// How many replicas, and the length of their blocks.
+    /// How many replicas, and the length of their blocks or whole outputs.
     vote: [u32; 2],
 }
 
@@ -62,7 +66,11 @@ impl Case {
     fn line(&mut self, line: &str) -> Read<()> {
         let (word, rest) = line.split_once(' ').unwrap_or((line, ""));
         match word {
-            "source" => self.source.extend(source(rest.trim())?),
+            "source" => {
+                self.last_line = self.source.len();
+                self.source.extend(source(rest.trim())?);
+            }
+            "source-at" => self.change_source(rest.trim())?,
             "source-length" => self.source_length = Some(number(rest)?),
             "request-count" => self.request_count = Some(number(rest)?),
             "vote" => self.vote = vote(rest)?,
@@ -72,6 +80,16 @@ impl Case {
                 }
             }
         }
+        Ok(())
+    }
+
+    /// What stands after `source-at`.
+    fn change_source(&mut self, text: &str) -> Read<()> {
+        let (at, text) = text.split_once(' ').ok_or("expected a number and a text")?;
+        let (at, bytes) = (number(at)? as usize, quoted(text.trim())?);
+        let place = self.source[self.last_line..].get_mut(at..at + bytes.len());
+        let place = place.ok_or("expected a place within the last source line")?;
+        place.copy_from_slice(&bytes);
         Ok(())
     }
 }
@@ -127,12 +145,18 @@ fn source(text: &str) -> Read<Vec<u8>> {
             .take(number(count)? as usize)
             .collect());
     }
+    if !text.starts_with('"') {
+        return Err("expected letters N or a text between quotes".into());
+    }
+    quoted(text)
+}
+
+/// The bytes that a text between quotes stands for.
+fn quoted(text: &str) -> Read<Vec<u8>> {
     let quoted = text
         .strip_prefix('"')
         .and_then(|text| text.strip_suffix('"'));
-    let mut rest = quoted
-        .ok_or("expected letters N or a text between quotes")?
-        .chars();
+    let mut rest = quoted.ok_or("expected a text between quotes")?.chars();
     let mut bytes = Vec::new();
     while let Some(char) = rest.next() {
         let char = match char {
@@ -269,6 +293,14 @@ mod tests {
     }
 
     #[test]
+    fn source_lines_are_changed_each_by_itself() {
+        let text = "open heap=1 z=2 w=3 pattern=4\nsource letters 3\nsource letters 4\nsource-at 2*1 \"x\\0\"\nsource-at 0 \"y\"\nsource \"DE\"\nsource-at 2 \"\"\n";
+        let mut expected = words(&[1, 2, 3, 4, 9, 0, 0, 0]);
+        expected.extend(b"ABCyBx\0DE");
+        assert_eq!(bytes_of(text), expected);
+    }
+
+    #[test]
     fn bad_lines_are_named() {
         let open = "open heap=1 z=2 w=3 pattern=4\n";
         for bad in [
@@ -287,11 +319,28 @@ mod tests {
             "open heap=1",
             "request-count",
             "source letters",
+            "source-at 0 \"x\"",
+            "source-at",
             "vote 3",
             "vote 3 1 1",
         ] {
             let found = read(&format!("{open}{bad}")).err().unwrap_or_default();
             assert!(found.starts_with("2: "), "{bad}: {found}");
+        }
+        for bad in [
+            "2 \"x\"",
+            "1 \"xy\"",
+            "4294967295 \"x\"",
+            "0",
+            "\"x\"",
+            "x \"x\"",
+            "0 x",
+            "0 letters 1",
+        ] {
+            let found = read(&format!("{open}source \"AB\"\nsource-at {bad}"))
+                .err()
+                .unwrap_or_default();
+            assert!(found.starts_with("3: "), "{bad}: {found}");
         }
         assert!(read("place 5").is_err());
         assert!(read("open heap=1 z=2 w=3 pattern=4 z=2").is_err());
