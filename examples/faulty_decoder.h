@@ -17,7 +17,7 @@
 enum { REGION = 65536, SIGNALS = 1000, NAME = 16, SCALE = 60 };
 
 /* What a copy can be told to do wrong, to see what the station makes of it. */
-enum fault { NONE, CRASH, QUIT, HANG, FLOOD, WRONG };
+enum fault { NONE, QUIT, HANG, CRASH, FLOOD, WRONG, LONGER };
 
 /* One signal of the log. The name stands last: a copy to it ends where the object does. */
 struct signal {
@@ -86,23 +86,9 @@ static void decode(const poheldu_heap *h, struct decoded *d)
     free(line);
 }
 
-/* Does what a copy was told to do wrong amid its output. */
-static void go_wrong(enum fault fault)
+/* Writes what was decoded: a line with a scale for each signal, and the nearest. */
+static void report(const struct decoded *d)
 {
-    fflush(stdout);
-    if (fault == CRASH)
-        raise(SIGSEGV);
-    while (fault == HANG)
-        pause();
-    while (fault == FLOOD)
-        puts("and so on");
-}
-
-/* Writes what was decoded: how many signals, a line with a scale for each, and the nearest. */
-static void report(const struct decoded *d, enum fault fault)
-{
-    printf("%zu signals, %zu lines not read\n", d->count, d->unread);
-    go_wrong(fault);
     for (size_t i = 0; i < d->count; i++) {
         const struct signal *s = d->signals[i];
         if (s == NULL) {
@@ -118,18 +104,27 @@ static void report(const struct decoded *d, enum fault fault)
         printf("nearest: none");
 }
 
-/* The decoder as a program; its exit status. The last byte that it writes is another in each copy with WRONG. */
+/* The decoder as a program; its exit status. A last byte that is wrong is another in each copy. */
 static int decoder(int copy, poheldu_seeds seeds, uint32_t pattern, enum fault fault)
 {
     static _Alignas(16) uint8_t heap[POHELDU_HEAP_BYTES(REGION)];
     static uint8_t metadata[POHELDU_METADATA_BYTES(REGION)];
     static struct decoded d;
     const poheldu_heap h = {heap, sizeof heap, metadata, sizeof metadata};
+    while (fault == HANG)
+        pause();
     if (fault == QUIT || poheldu_open_heap(&h, seeds, pattern).number != POHELDU_SERVED)
         return 1;
     decode(&h, &d);
-    report(&d, fault);
+    printf("%zu signals, %zu lines not read\n", d.count, d.unread);
+    if (fault == CRASH && fflush(stdout) == 0)
+        raise(SIGSEGV);
+    while (fault == FLOOD)
+        puts("and so on");
+    report(&d);
     putchar(fault == WRONG ? '0' + copy : '\n');
+    if (fault == LONGER)
+        putchar('\0');
     for (size_t i = 0; i < d.count; i++)
         poheldu_free(&h, d.signals[i]); /* null is no object: nothing is done */
     poheldu_free(&h, d.nearest);        /* once too often: refused, and nothing changes */

@@ -110,8 +110,9 @@ static int open_pipe(int ends[2])
  * them, their input would not end. A decoder that is a program of its own is started here by execv in place of
  * decoder(), with seeds and pattern as its arguments.
  */
-static int start(struct copy *copies, int i)
+static int start(struct readout *r, int i)
 {
+    struct copy *const copies = r->copies;
     int in[2], out[2];
     if (!open_pipe(in) || !open_pipe(out) || fcntl(in[1], F_SETFL, O_NONBLOCK) < 0)
         return 0;
@@ -128,6 +129,7 @@ static int start(struct copy *copies, int i)
             close_end(&copies[before].from);
         }
         signal(SIGPIPE, SIG_DFL);
+        alarm(2 * (unsigned)r->seconds); /* for one that hangs and whose station is gone */
         exit(decoder(i, copies[i].seeds, patterns[i], copies[i].fault));
     }
     close(in[0]);
@@ -221,7 +223,7 @@ static int run(struct readout *r)
 {
     const int64_t deadline = now() + r->seconds * INT64_C(1000);
     int started = 0;
-    while (started < COPIES && start(r->copies, started))
+    while (started < COPIES && start(r, started))
         started++;
     if (started == COPIES)
         exchange(r, deadline);
@@ -323,11 +325,12 @@ static const char help[] =
     "  --limit SECONDS  how long the copies may take, 1 to 3600; 10 where it is not given\n"
     "\n"
     "FAULT N makes copy N, from 0, go wrong, to see what becomes of it:\n"
-    "  --crash N        it crashes amid its output\n"
     "  --quit N         it exits with 1 and reads nothing\n"
-    "  --hang N         it hangs amid its output\n"
+    "  --hang N         it hangs and reads nothing\n"
+    "  --crash N        it crashes amid its output\n"
     "  --flood N        it writes without end\n"
-    "  --wrong N        it writes another last byte\n"
+    "  --wrong N        its last byte is another\n"
+    "  --longer N       it writes a zero byte more\n"
     "\n"
     "Exit status: 0 two copies or more agree, 1 no two agree, 2 wrong arguments or trouble with the\n"
     "system, 3 too few copies ended well for two to agree.\n";
@@ -356,7 +359,7 @@ static int take_seeds(char **arguments, struct copy *copies)
 /* Takes an argument and the values after it; gives how many arguments that were, or 0. */
 static int take_argument(char **arguments, struct readout *r)
 {
-    static const char *const faults[] = {"", "--crash", "--quit", "--hang", "--flood", "--wrong"};
+    static const char *const faults[] = {"", "--quit", "--hang", "--crash", "--flood", "--wrong", "--longer"};
     unsigned long number;
     if (strcmp(arguments[0], "--seeds") == 0)
         return take_seeds(arguments, r->copies);
@@ -365,7 +368,7 @@ static int take_argument(char **arguments, struct readout *r)
         r->seconds = good ? (int)number : 0;
         return good ? 2 : 0;
     }
-    for (int f = CRASH; f <= WRONG; f++)
+    for (int f = QUIT; f <= LONGER; f++)
         if (strcmp(arguments[0], faults[f]) == 0 && read_number(arguments[1], 10, COPIES - 1, &number)) {
             r->copies[number].fault = (enum fault)f;
             return 2;
