@@ -1,8 +1,9 @@
 /*
  * What the station does with one beacon's log. It starts three copies of a decoder, each as a process of its own, on a
  * heap of its own, with new seeds and a pattern that no other copy has. It gives each the log, gathers what they write,
- * and passes on what two copies agree on. A copy that crashes, hangs or writes without end does not hold up the others.
- * What repeats a readout goes to standard error, for the rental slip, and then how each copy ended.
+ * and passes on what two copies agree on. A copy that crashes, hangs until its time is up or writes without end is one
+ * copy less, and no more. What repeats a readout goes to standard error, for the rental slip, and then how each copy
+ * ended.
  *
  * A vote takes outputs of one length, and copies write what they write. So of each copy a record is made: how it ended,
  * with which number, and how many bytes it wrote, each as 32 bits, lowest byte first; then these bytes; then zeros, up
@@ -10,7 +11,8 @@
  * begin. Copies that crash alike agree too, and may win; what they agree on is no output, and nothing is passed on.
  *
  * The decoder, in faulty_decoder.h, reports on a signal after its free where the log withdraws the nearest one. Each
- * copy then reads its own pattern there, no two agree, and no wrong distance leaves the station.
+ * copy then reads its own pattern there, or a later signal that its draws put there: no two agree, and no wrong
+ * distance leaves the station.
  *
  * Exit status: 0 two copies or more agree, 1 no two agree, 2 wrong arguments or trouble with the system, 3 too few
  * copies ended well for two to agree.
