@@ -23,6 +23,7 @@ use Rattle.alike.specs.Alike.{alike}
 use Rattle.search.specs.Tabulate.{tabulate}
 use Rattle.elect.specs.Leader.{digits, leader}
 use Rattle.vote.specs.Decide.{count, decide}
+use Rattle.whole.specs.Whole.{through, whole}
 use Rattle.alike.proofs.Equal.{alike-equal}
 use Rattle.known_answers.specs.Calls.{Row, example, numbers, answerToOpening, clear, answerTo, leftAfter, placeOf, showing, voting}
 use Rattle.known_answers.specs.Calls.{inspecting}
@@ -30,6 +31,7 @@ use Rattle.known_answers.specs.Table.{table, start, oneObject, copying, 
 use Rattle.known_answers.specs.Further.{further, lastSet, firstSet, atCapacity, afterSeven, letters, kept}
 use Rattle.known_answers.specs.Further.{nearHalf, classFive, onlySlotSet, counting, shownWith, shownThere, eachAbove}
 use Rattle.known_answers.specs.Canaries.{canaries, openedWith, newly, overUneven, part, overrun, freeing, newHits}
+use Rattle.known_answers.specs.Wholes.{wholes, spelled, allSpelled, votingWhole, twoBlocks, oneByte, refused}
 use Rattle.known_answers.specs.Canaries.{noneClear, fewClear, laterClear, changed, twoHit}
 
 -- the two sides of each row are the same numbers
@@ -74,6 +76,11 @@ unfolding allAlike canaries openedWith newly overUneven part overrun freeing new
     serving opening inspection alike tabulate
 canaries-compute = refl
 
+wholes-compute : allAlike wholes ≡ true
+unfolding allAlike wholes spelled allSpelled votingWhole twoBlocks oneByte refused example first alike tabulate digits leader
+    count through whole
+wholes-compute = refl
+
 -- each of the twelve worked examples holds of the definitions
 pub worked-examples : Right table
 worked-examples = each table computes
@@ -85,3 +92,7 @@ further-examples = each further further-computes
 -- and each of those of canaries
 pub canary-examples : Right canaries
 canary-examples = each canaries canaries-compute
+
+-- and each of those of whole votes
+pub whole-examples : Right wholes
+whole-examples = each wholes wholes-compute

@@ -1,2 +1,2 @@
-// Worked examples of the rules, as three tables: the twelve that the rules name, further ones, and those of
-// canaries. It has no code.
+// Worked examples of the rules, as four tables: the twelve that the rules name, further ones, those of
+// canaries, and those of whole votes. It has no code.
