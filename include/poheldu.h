@@ -308,7 +308,8 @@ static inline const char *poheldu_name(uint32_t number)
  * Replicas that vote take a pattern each, that differs from the others' in every byte, as these
  * three do. What a faulty program reads of an object after its free, or of a new one before it
  * writes it, is the pattern: with one for all, every replica reads the same there, and the vote
- * passes what they make of it.
+ * passes what they make of it. A program that only decides by what it reads there, as whether it
+ * is more than a number, writes one of two outputs, so that of three replicas two still agree.
  *
  *     poheldu_answer a = poheldu_open(heap, sizeof heap, metadata, sizeof metadata, z, w, pattern);
  *     if (a.number != POHELDU_SERVED)
