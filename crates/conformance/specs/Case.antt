@@ -14,7 +14,7 @@ abbrev pub metadataRoom : ℕ
 metadataRoom = 4096
 
 abbrev pub sourceRoom : ℕ
-sourceRoom = 8192
+sourceRoom = 65536
 
 abbrev pub requestsRoom : ℕ
 requestsRoom = 1024

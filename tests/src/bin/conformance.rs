@@ -1,15 +1,16 @@
 //! By the second implementation, what the program `conformance` prints for the cases on standard input: a header of eight words (the
-//! heap's length, z, w, the pattern, the source's length, the number of requests, the number of replicas, the length of their blocks) and
-//! then the source and the requests of each.
+//! heap's length, z, w, the pattern, the source's length, the number of requests, the number of replicas, the length of their blocks or
+//! whole outputs) and then the source and the requests of each.
 
-use poheldu_tests::reference;
+use poheldu_tests::reference::{self, Verdict};
 use std::io::{self, Read, Write};
 
 const HEADER: usize = 32;
 const HEAP: usize = 98_304;
-const SOURCE: usize = 8_192;
+const SOURCE: usize = 65_536;
 const REQUESTS: usize = 1024;
 const BLOCK: usize = 4_096;
+const WHOLE: usize = 5 * BLOCK;
 
 fn word(bytes: &[u8], at: usize) -> u32 {
     u32::from_le_bytes(bytes[at..at + 4].try_into().expect("four bytes"))
@@ -37,12 +38,19 @@ fn digest(bytes: &[u8]) -> u32 {
     })
 }
 
+/// A line of a vote's answer and of what its output holds after it.
+fn vote_line(out: &mut impl Write, name: &str, v: Verdict, output: &[u8]) -> io::Result<()> {
+    write!(out, "{name} {} {} {}", v.number, v.mask, v.value)?;
+    writeln!(out, " {} {}", v.replica, digest(output))
+}
+
 fn main() -> io::Result<()> {
     let mut all = Vec::new();
     io::stdin().lock().read_to_end(&mut all)?;
     let mut input = &all[..];
     let mut out = io::BufWriter::new(io::stdout().lock());
-    let (mut heap, mut metadata, mut output) = (vec![0; HEAP], vec![0; 4096], [0; BLOCK]);
+    let (mut heap, mut metadata) = (vec![0; HEAP], vec![0; 4096]);
+    let (mut output, mut whole) = ([0; BLOCK], [0; WHOLE]);
     while input.len() >= HEADER {
         let header = take(&mut input, HEADER);
         let heap = &mut heap[..HEAP.min(word(header, 0) as usize)];
@@ -57,10 +65,11 @@ fn main() -> io::Result<()> {
             writeln!(out, "{} {} {}", i + 1, answer.number, answer.value)?;
         }
         writeln!(out, "heap {}", digest(heap))?;
-        let [replicas, block_len] = [24, 28].map(|at| word(header, at) as usize);
-        let v = reference::vote(source, replicas, block_len, &mut output);
-        write!(out, "vote {} {} {}", v.number, v.mask, v.value)?;
-        writeln!(out, " {} {}", v.replica, digest(&output))?;
+        let [replicas, length] = [24, 28].map(|at| word(header, at) as usize);
+        let verdict = reference::vote(source, replicas, length, &mut output);
+        vote_line(&mut out, "vote", verdict, &output)?;
+        let verdict = reference::vote_whole(source, replicas, length, &mut whole);
+        vote_line(&mut out, "whole", verdict, &whole)?;
     }
     out.flush()
 }
