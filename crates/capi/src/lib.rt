@@ -9,7 +9,8 @@ ghost use Rattle.rules.specs.Open.{setup};
 ghost use Rattle.rules.specs.Serve.{lentWith};
 ghost use Rattle.rules.specs.Call.{serve, reading, opening};
 ghost use Rattle.rules.specs.Inspect.{inspection};
-ghost use Rattle.vote.specs.Decide.{decide, tally, refusedWith, outputAfter};
+ghost use Rattle.vote.specs.declared.Verdict.the-variants.{Agreed};
+ghost use Rattle.vote.specs.Decide.{decide, tally, tallyOf, refusedWith, outputAfter};
 ghost use Rattle.whole.specs.Whole.{whole};
 ghost use Rattle.capi.specs.Numbers.{replyIn, tallyIn, readPart, metadataFor, interface};
 ghost use Rattle.capi.specs.Slots.{nthSlot, findSlot, countSlots, storedPattern};
@@ -137,6 +138,17 @@ pub extern "C" fn poheldu_inspect(heap: &[u8], metadata: &[u8], list: &mut [u32]
     in_numbers(inspect::inspect(heap, metadata, list))
 }
 
+fn agreed(mask: u32, count: u32, replica: u32) -> PohelduVerdict
+    ensures { λ r. ⌜ tallyIn r ≡ tallyOf (Agreed mask count replica) ⌝ }
+{
+    PohelduVerdict {
+        number: 0,
+        mask,
+        value: count,
+        replica,
+    }
+}
+
 // A vote that is refused names nobody.
 fn refused(refusal: Refusal, value: u32) -> PohelduVerdict
     ensures { λ r. ⌜ tallyIn r ≡ refusedWith refusal value ⌝ }
@@ -165,12 +177,7 @@ pub extern "C" fn poheldu_vote(
             mask,
             count,
             replica,
-        } => PohelduVerdict {
-            number: 0,
-            mask,
-            value: count,
-            replica,
-        },
+        } => agreed(mask, count, replica),
         Verdict::Refused(refusal) => refused(refusal, 0),
     }
 }
@@ -191,12 +198,7 @@ pub extern "C" fn poheldu_vote_whole(
             mask,
             count,
             replica,
-        } => PohelduVerdict {
-            number: 0,
-            mask,
-            value: count,
-            replica,
-        },
+        } => agreed(mask, count, replica),
         Consensus::Split { block } => refused(Refusal::NoAgreement, block),
         Consensus::Refused(refusal) => refused(refusal, 0),
     }

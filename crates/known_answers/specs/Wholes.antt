@@ -68,21 +68,12 @@ wholes =
     ∷ example (twoBlocks ((a ∷ x ∷ []) ∷ (b ∷ x ∷ []) ∷ (c ∷ x ∷ []) ∷ [])) (12 ∷ 0 ∷ 0 ∷ 0 ∷ replicate 4_099 0xff)
     ∷ example (twoBlocks ((a ∷ a ∷ []) ∷ (a ∷ b ∷ []) ∷ (b ∷ a ∷ []) ∷ []))
     (12 ∷ 0 ∷ 1 ∷ 0 ∷ replicate longest a ++ replicate 3 0xff)
-    -- two are left after block 1 of three, and the last byte of block 2 divides them
-    ∷ example
-    (votingWhole (allSpelled 1 ((a ∷ a ∷ a ∷ []) ∷ (a ∷ a ∷ b ∷ []) ∷ (a ∷ b ∷ a ∷ []) ∷ [])) 3 8_193 8_193)
-    (12 ∷ 0 ∷ 2 ∷ 0 ∷ replicate (2 * longest) a ++ (0xff ∷ []))
-    -- a tie among those who are in goes to the lowest of them, who need not be replica 0
-    ∷ example (twoBlocks ((x ∷ b ∷ []) ∷ (a ∷ c ∷ []) ∷ (a ∷ b ∷ []) ∷ (a ∷ b ∷ []) ∷ (a ∷ c ∷ []) ∷ []))
-    (0 ∷ 18 ∷ 2 ∷ 1 ∷ spelled 1 (a ∷ c ∷ []) ++ (0xff ∷ 0xff ∷ []))
-    -- more than half have one output; and of seven, three share one and yet another wins, since four begin otherwise
-    ∷ example (twoBlocks ((x ∷ b ∷ []) ∷ (a ∷ c ∷ []) ∷ (x ∷ b ∷ []) ∷ (a ∷ c ∷ []) ∷ (a ∷ c ∷ []) ∷ []))
-    (0 ∷ 26 ∷ 3 ∷ 1 ∷ spelled 1 (a ∷ c ∷ []) ++ (0xff ∷ 0xff ∷ []))
-    ∷ example
-    (twoBlocks
-    ((x ∷ a ∷ []) ∷ (x ∷ a ∷ []) ∷ (x ∷ a ∷ []) ∷ (c ∷ b ∷ []) ∷ (c ∷ b ∷ []) ∷ (c ∷ a ∷ []) ∷ (c ∷ x ∷ []) ∷ []))
-    (0 ∷ 24 ∷ 2 ∷ 3 ∷ spelled 1 (c ∷ b ∷ []) ++ (0xff ∷ 0xff ∷ []))
-    -- one block: of one byte, by 3 and by 16 replicas; of 4,096 bytes, of which the last differs
+    -- a tie goes to the lowest of those tied; two share an output and yet none wins: two others begin alike, and differ
+    ∷ example (twoBlocks ((a ∷ c ∷ []) ∷ (a ∷ b ∷ []) ∷ (a ∷ b ∷ []) ∷ (a ∷ c ∷ []) ∷ []))
+    (0 ∷ 9 ∷ 2 ∷ 0 ∷ spelled 1 (a ∷ c ∷ []) ++ (0xff ∷ 0xff ∷ []))
+    ∷ example (twoBlocks ((c ∷ a ∷ []) ∷ (c ∷ b ∷ []) ∷ (x ∷ a ∷ []) ∷ (x ∷ a ∷ []) ∷ []))
+    (12 ∷ 0 ∷ 1 ∷ 0 ∷ replicate longest c ++ replicate 3 0xff)
+    -- one block: of one byte, by 3 and by 16 replicas; of 4,096 bytes
     ∷ example (oneByte (a ∷ b ∷ a ∷ [])) (0 ∷ 5 ∷ 2 ∷ 0 ∷ a ∷ [])
     ∷ example (oneByte (a ∷ b ∷ c ∷ [])) (12 ∷ 0 ∷ 0 ∷ 0 ∷ 0xff ∷ [])
     ∷ example (oneByte (tabulate (λ r. cond (eqb r 3) a (cond (eqb r 15) a r)) 0 16)) (0 ∷ 32_776 ∷ 2 ∷ 3 ∷ a ∷ [])

@@ -10,6 +10,9 @@ vote-requires c κs = search needs
 enum-known-mask : tie.Need-enum-known-mask
 enum-known-mask c = search needs
 
+agreed-requires : tie.Need-agreed-requires
+agreed-requires c κs = search needs
+
 enum-known-refusal : tie.Need-enum-known-refusal
 enum-known-refusal c = search needs
 
@@ -21,9 +24,8 @@ same-length c = search needs
 
 returns : tie.Need-returns
 returns c =
-    let v = c .before .before .before .before .before .vote .ensures in
-    let agreed = c .before .mask .given .1 in
-    (rw agreed at (v .0), v .1)
+    let v = c .before .before .before .before .before .before .vote .ensures in
+    (c .agreed .ensures ∙ rw (c .before .before .mask .given .1) at (v .0), v .1)
 
 same-length-2 : tie.Need-same-length-2
 same-length-2 c = search needs
@@ -39,6 +41,7 @@ poheldu-vote-spec =
     (tie.spec
     vote-requires
     enum-known-mask
+    agreed-requires
     enum-known-refusal
     refused-requires
     same-length

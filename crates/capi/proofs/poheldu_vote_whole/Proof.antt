@@ -10,6 +10,9 @@ vote-requires c κs = search needs
 enum-known-mask : tie.Need-enum-known-mask
 enum-known-mask c = search needs
 
+agreed-requires : tie.Need-agreed-requires
+agreed-requires c κs = search needs
+
 enum-known-block : tie.Need-enum-known-block
 enum-known-block c = search needs
 
@@ -27,8 +30,8 @@ same-length c = search needs
 
 returns : tie.Need-returns
 returns c =
-    let v = c .before .before .before .before .before .vote .ensures in
-    (rw (c .before .mask .given .1) at (v .0), v .1)
+    let v = c .before .before .before .before .before .before .vote .ensures in
+    (c .agreed .ensures ∙ rw (c .before .before .mask .given .1) at (v .0), v .1)
 
 same-length-2 : tie.Need-same-length-2
 same-length-2 c = search needs
@@ -52,6 +55,7 @@ poheldu-vote-whole-spec =
     (tie.spec
     vote-requires
     enum-known-mask
+    agreed-requires
     enum-known-block
     refused-requires
     enum-known-refusal
