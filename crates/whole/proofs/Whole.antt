@@ -97,6 +97,10 @@ module _ (outputs : List ℕ) (k len : ℕ) (out : List ℕ) where
       → drop (longest * voted .answer .value) (voted .output) ≡ drop (longest * voted .answer .value) out
   refused-keeps = elim course [ wrong e ↦ λ _. rw e | right a e ↦ rw e (λ refused. through-ended a .split refused .2) ]
 
+  -- So one that names block 0, as each with 15 does, changes no byte.
+  pub refused-at-once : (voted .answer .number ≡ 0 → ⊥) → voted .answer .value ≡ 0 → voted .output ≡ out
+  refused-at-once refused first-block = rw first-block at (refused-keeps refused)
+
   -- Where more than half of the replicas have one output, the whole vote is served with it.
   pub majority-wins : invalid longestOutput (length outputs) k len (length out) ≡ false → (i : ℕ) → i < k
       → k < 2 * votes (having outputs k len (outputOf outputs len i))
