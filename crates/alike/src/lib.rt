@@ -1,5 +1,7 @@
 // Whether two lists of bytes are the same: a definition and its laws, for the contracts and proofs of the crates above,
 // and the comparing of lent bytes.
+#![tactic(auto)]
+
 ghost use Rattle.std.specs.Prelude.{◌≡◌, ◌<◌, ◌≤◌, not, length};
 ghost use Rattle.alike.specs.Alike.{alike, between};
 

@@ -1,8 +1,10 @@
 // What a call answers: served with a value, or refused by name; and both in the numbers that callers see.
+#![tactic(auto)]
+
 ghost use Rattle.std.specs.Prelude.{◌≡◌};
 ghost use Rattle.answer.specs.Reply.{number_of, reply_of};
 
-#[derive(Drop)]
+#[derive(Clone, Copy)]
 pub enum Refusal {
     UnusableSeed,
     HeapLength,
@@ -21,7 +23,7 @@ pub enum Refusal {
     InvalidOutputs,
 }
 
-#[derive(Drop)]
+#[derive(Clone, Copy)]
 pub enum Answer {
     Served(u32),
     Refused(Refusal),

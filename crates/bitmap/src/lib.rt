@@ -1,5 +1,7 @@
 // One class's bitmap: the bytes that hold it and how many slots it has. Bits beyond the slots are neither tested
 // nor changed.
+#![tactic(auto)]
+
 ghost use Rattle.std.specs.Prelude.{◌≡◌, ◌-◌, ◌/◌, ◌%◌, ◌^◌, ◌<◌, ◌≤◌};
 ghost use Rattle.search.specs.First.{first};
 ghost use Rattle.bitmap.specs.Bitmap.{is_set, is_clear, set_slot, clear_slot, next_clear};

@@ -1,4 +1,6 @@
 // Canaries: bytes and all slots of a heap filled with one, and where bytes no longer hold it.
+#![tactic(auto)]
+
 ghost use Rattle.std.specs.Prelude.{◌≡◌, ◌+◌, ◌≤◌, length, take};
 ghost use Rattle.words.specs.Word.{bytes_of};
 ghost use Rattle.writing.specs.Overwrite.{overwrite};
@@ -44,8 +46,8 @@ fn repeat(bytes: &mut [u8], at: usize, len: usize)
     ensures { bytes.new ≡ overwrite bytes.old at (take len bytes.old) }
 {
     let mut block = [0u8; COPY];
-    bytes::copy(&bytes[0..len], &mut block);
-    bytes::copy(&block[0..len], &mut bytes[at..at + len]);
+    block[0..len].copy_from_slice(&bytes[0..len]);
+    bytes[at..at + len].copy_from_slice(&block[0..len]);
 }
 
 // Fills bytes, from the first on.

@@ -11,7 +11,7 @@ use borrow.Author.Tests.{eqb-true, le-leb, lt-leb}
 use lib.Dec.{eqb}
 use lib.ListN.{length, take, set, get_or, length-take, length-set}
 use lib.Seq.{take_all, get_or-take, get_or-set_same, get_or-set_other}
-use Rattle.bytes.specs.Bytes.{index_of, index_after}
+use Rattle.scan.specs.Bytes.{index_of, index_after}
 use Rattle.request.specs.declared.Kind.{Kind}
 use Rattle.request.specs.declared.Kind.TheVariants.{Bytes, String, Padded}
 use Rattle.copies.specs.Writes.{string_in, clipped, writes}

@@ -8,7 +8,7 @@ use native.Mathlib.Decide.{dec_le}
 use native.Mathlib.Omega.{arith}
 use lib.ListN.{length, take, drop, set, replicate, length-append, length-take, length-drop, length-set, length-replicate}
 use lib.Seq.{take_all, drop-length, length-take-le, take-take, take_at, drop_at, drop-drop, take-append-le, take-append-add}
-use Rattle.bytes.specs.Bytes.{index_of}
+use Rattle.scan.specs.Bytes.{index_of}
 use Rattle.copies.proofs.Index.{index_le}
 use Rattle.request.specs.declared.Kind.TheVariants.{String, Padded}
 use Rattle.writing.specs.Overwrite.{overwrite}

@@ -8,7 +8,7 @@ use native.Mathlib.Omega.{arith}
 use lib.Dec.{eqb}
 use lib.ListN.{length, take, get_or}
 use lib.Seq.{length-take-le, get_or-take}
-use Rattle.bytes.specs.Bytes.{index_of, index_after}
+use Rattle.scan.specs.Bytes.{index_of, index_after}
 use Rattle.search.specs.First.{first}
 use Rattle.search.proofs.First.{first_range}
 use Rattle.search.proofs.Blocks.{first_part}

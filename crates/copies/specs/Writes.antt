@@ -1,6 +1,6 @@
 -- What copies write in a given room.
 use Rattle.std.specs.Prelude.{ℕ, suc, ◌-◌, List, ◌++◌, cond, length, take, set, replicate, leb}
-use Rattle.bytes.specs.Bytes.{index_of}
+use Rattle.scan.specs.Bytes.{index_of}
 use Rattle.request.specs.declared.Kind.{Kind}
 use Rattle.request.specs.declared.Kind.TheVariants.{Bytes, String, Padded}
 

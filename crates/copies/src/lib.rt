@@ -1,6 +1,8 @@
 // Copies into bytes that were lent: what each kind writes, as far as it fits; and zeros.
+#![tactic(auto)]
+
 ghost use Rattle.std.specs.Prelude.{◌≡◌, min, ◌≤◌, length, replicate};
-ghost use Rattle.bytes.specs.Bytes.{index_of};
+ghost use Rattle.scan.specs.Bytes.{index_of};
 ghost use Rattle.request.specs.declared.Kind.TheVariants.{String, Padded};
 ghost use Rattle.writing.specs.Overwrite.{overwrite};
 ghost use Rattle.copies.specs.Writes.{clipped, writes};

@@ -1,4 +1,6 @@
 // Numbers in decimal, as text.
+#![tactic(auto)]
+
 ghost use Rattle.std.specs.Prelude.{◌≡◌, ◌+◌, ◌-◌, ◌<◌, ◌≤◌, ◌++◌, length, replicate};
 ghost use Rattle.writing.specs.Overwrite.{overwrite};
 ghost use Rattle.decimal.specs.Decimal.{width, decimal, decimal_within};
@@ -7,7 +9,7 @@ ghost use Rattle.decimal.specs.Decimal.{width, decimal, decimal_within};
 pub const WIDTH: usize = 20;
 
 // Digits at the end of an array, from `start` on; before them it holds zeros.
-#[derive(Drop)]
+#[derive(Clone, Copy)]
 struct Digits {
     text: [u8; WIDTH],
     start: usize,
@@ -53,6 +55,6 @@ pub fn put(out: &mut [u8], at: usize, n: u64) -> usize
     let text = digits.text;
     let start = digits.start;
     let end = at + (WIDTH - start);
-    bytes::copy(&text[start..WIDTH], &mut out[at..end]);
+    out[at..end].copy_from_slice(&text[start..WIDTH]);
     end
 }

@@ -1,4 +1,6 @@
 // Where things lie: the regions and slots of a heap, and the bitmaps of its metadata.
+#![tactic(auto)]
+
 ghost use Rattle.std.specs.Prelude.{◌≡◌, ◌+◌, ◌*◌, ◌^◌, ◌<◌, ◌≤◌};
 ghost use Rattle.geometry.specs.Layout.{classes, slot_size, slots, class_of, locate};
 ghost use Rattle.geometry.specs.Layout.{header, bitmap_length, bitmap_at, part_of, plan_of};
@@ -19,20 +21,20 @@ pub const CANARY: usize = COUNTS + 4 * CLASSES;
 pub const HEADER: usize = CANARY + 4;
 
 // How a heap is laid out. A region length of 0 stands for no heap: it has no slots.
-#[derive(Drop)]
+#[derive(Clone, Copy)]
 pub struct Layout {
     pub region: u32,
 }
 
 // What a heap's length tells: its layout, and the length of its metadata.
-#[derive(Drop)]
+#[derive(Clone, Copy)]
 pub struct Plan {
     pub layout: Layout,
     pub metadata: usize,
 }
 
 // The part of the metadata that holds a class's bitmap, and how many slots the bitmap has.
-#[derive(Drop)]
+#[derive(Clone, Copy)]
 pub struct Part {
     pub slots: usize,
     pub start: usize,
@@ -40,7 +42,7 @@ pub struct Part {
 }
 
 // The class and the slot in whose bytes an offset lies, and how far it lies into the slot.
-#[derive(Drop)]
+#[derive(Clone, Copy)]
 pub struct Location {
     pub class: usize,
     pub slot: usize,

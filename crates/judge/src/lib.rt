@@ -1,4 +1,6 @@
 // What is judged before anything else: the lengths of a heap and its metadata, and before a request the live counts.
+#![tactic(auto)]
+
 ghost use Rattle.std.specs.Prelude.{◌≡◌, ◌≤◌, length};
 ghost use Rattle.geometry.specs.Layout.{header};
 ghost use Rattle.judge.specs.Judge.{lengths, any_over, admit};
@@ -8,7 +10,7 @@ use geometry::{CLASSES, COUNTS, HEADER, Layout, Plan};
 use numbers::wide;
 
 // What the lengths of a heap and its metadata come to.
-#[derive(Drop)]
+#[derive(Clone, Copy)]
 pub enum Judged {
     Laid(Layout),
     Unfit(Refusal),

@@ -1,4 +1,6 @@
 // Marsaglia's multiply-with-carry pair: two 32-bit halves and the number that they draw.
+#![tactic(auto)]
+
 ghost use Rattle.std.specs.Prelude.{◌≡◌, ◌-◌, ◌*◌, ◌%◌, ◌<◌, ◌==◌};
 ghost use Rattle.mwc.specs.Draw.{step, next, drawn, is_unusable};
 
@@ -6,7 +8,7 @@ const Z_MULTIPLIER: u32 = 36969;
 
 const W_MULTIPLIER: u32 = 18000;
 
-#[derive(Drop)]
+#[derive(Clone, Copy)]
 pub struct Generator {
     pub z: u32,
     pub w: u32,

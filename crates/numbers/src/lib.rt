@@ -1,4 +1,6 @@
 // Arithmetic on machine numbers as the definitions have it: every function has an answer for all numbers.
+#![tactic(auto)]
+
 ghost use Rattle.std.specs.Prelude.{◌≡◌, min, ◌/◌, ◌%◌, ◌<◌, ◌≤◌};
 
 pub fn wide(x: u32) -> usize

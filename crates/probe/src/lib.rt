@@ -1,4 +1,6 @@
 // Choosing a slot: draws, and then the next clear slot.
+#![tactic(auto)]
+
 ghost use Rattle.std.specs.Prelude.{◌≡◌};
 ghost use Rattle.probe.specs.Probe.{draws, probe};
 
@@ -8,7 +10,7 @@ use numbers::{power_remainder, wide};
 const DRAWS: usize = 32;
 
 // A slot, and the generator after the draws that led to it.
-#[derive(Drop)]
+#[derive(Clone, Copy)]
 pub struct Found {
     pub slot: usize,
     pub generator: Generator,

@@ -1,5 +1,7 @@
 // A word as it is shown to a person: its start between quotes, and nothing in it that a terminal would take for a
 // command.
+#![tactic(auto)]
+
 ghost use Rattle.std.specs.Prelude.{◌≡◌, ◌+◌, ◌≤◌, length, take, replicate};
 ghost use Rattle.writing.specs.Overwrite.{overwrite};
 ghost use Rattle.quoting.specs.Quoted.{shown_byte, shown_most, opened, quoted, quoted_room};
@@ -13,7 +15,7 @@ pub const SHOWN: usize = 24;
 pub const ROOM: usize = 1 + SHOWN + 4;
 
 // The front of an array; behind it are zeros.
-#[derive(Drop)]
+#[derive(Clone, Copy)]
 pub struct Shown {
     pub text: [u8; ROOM],
     pub len: usize,

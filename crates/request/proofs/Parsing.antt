@@ -4,8 +4,8 @@ use mathlib.Core.Path.{◌≡◌, ◌∙◌}
 use mathlib.Core.Bool.{true, false}
 use mathlib.Core.List.{List}
 use borrow.Author.Tests.{eq-eqb, ne_eqb}
-use lib.ListN.{length, replicate}
-use Rattle.words.specs.Word.{word_of, bytes_of, word_at, put_word}
+use lib.ListN.{length}
+use Rattle.words.specs.Word.{word_of, bytes_of, word_at}
 use Rattle.words.proofs.Stored.{word_bytes_lem}
 use Rattle.request.specs.declared.Parsed.TheVariants.{Malformed}
 use Rattle.request.specs.Parse.{operation, count_allowed, request_size, parse, request_bytes}
@@ -37,9 +37,3 @@ encoded code argument count p q r h =
     let allowed : count_allowed (word_of (bytes_of code)) (word_of (bytes_of count)) ≡ true =
     (λ i. count_allowed (word_bytes_lem code p i) (word_bytes_lem count r i)) ∙ h in
     rw allowed (λ i. operation (word_bytes_lem code p i) (word_bytes_lem argument q i) (word_bytes_lem count r i))
-
--- three words stored in sixteen zeros are a request's bytes
-pub words_stored : (code argument count : ℕ) {a b c : List ℕ} → a ≡ put_word (replicate request_size 0) 0 code → b ≡ put_word a 4 argument
-    → c ≡ put_word b 8 count
-    → c ≡ request_bytes code argument count
-words_stored code argument count p q r = r ∙ rw (q, p)

@@ -1,4 +1,6 @@
 // Requests: sixteen bytes, read whole into an enum or found malformed.
+#![tactic(auto)]
+
 ghost use Rattle.std.specs.Prelude.{◌≡◌};
 ghost use Rattle.request.specs.Parse.{operation, has_count, count_allowed, parse, request_bytes};
 
@@ -7,14 +9,14 @@ pub const SIZE: usize = 16;
 
 // What a copy writes: the source; the source through its first zero byte; or the source before it, and zeros up to a
 // count.
-#[derive(Drop)]
+#[derive(Clone, Copy)]
 pub enum Kind {
     Bytes,
     String,
     Padded(u32),
 }
 
-#[derive(Drop)]
+#[derive(Clone, Copy)]
 pub enum Request {
     Allocate(u32),
     Free(u32),
@@ -23,7 +25,7 @@ pub enum Request {
     Read(u32, u32),
 }
 
-#[derive(Drop)]
+#[derive(Clone, Copy)]
 pub enum Parsed {
     Whole(Request),
     Malformed,

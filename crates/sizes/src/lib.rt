@@ -1,4 +1,6 @@
 // The usual slot sizes, and the class of a size among them, which is looked up in a table.
+#![tactic(auto)]
+
 mod table;
 
 ghost use Rattle.std.specs.Prelude.{◌≡◌, ◌+◌, ◌*◌, ◌%◌, ◌<◌};
@@ -74,6 +76,7 @@ fn entry(step: usize) -> u8
 
 // The class of a size; CLASSES where no slot is large enough. Slots are whole steps of eight bytes, so a size is
 // rounded up to them. Nothing has no step of its own.
+#[tactic(auto, using(crate::proofs::Sizes::usual_class_none))]
 pub fn usual_class(size: u32) -> usize
     ensures { result ≡ usual_class size }
 {

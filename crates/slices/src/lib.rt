@@ -1,4 +1,6 @@
 // Parts of slices.
+#![tactic(auto)]
+
 ghost use Rattle.std.specs.Prelude.{◌≡◌, ◌-◌, length, take, drop};
 ghost use Rattle.slices.specs.Part.{part_address};
 

@@ -1,4 +1,6 @@
 // Spans: how many bytes from the first on are those of a pattern over and over, and how many are other than a byte.
+#![tactic(auto)]
+
 ghost use Rattle.std.specs.Prelude.{◌≡◌, ◌+◌, ◌-◌, ◌%◌, ◌≤◌, ltb, length};
 ghost use Rattle.search.specs.First.{first};
 ghost use Rattle.span.specs.Pattern.{is_other, is_byte, is_sought, first_sought, Laid};

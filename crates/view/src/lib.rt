@@ -1,4 +1,6 @@
 // What a read shows, and these bytes where they lie: nothing is copied.
+#![tactic(auto)]
+
 ghost use Rattle.std.specs.Prelude.{◌≡◌, length};
 ghost use Rattle.answer.specs.Reply.{reply_of};
 ghost use Rattle.view.specs.View.{view_bytes, address_of, place_within, within};
@@ -9,21 +11,21 @@ use numbers::{least, wide};
 use slices::between;
 
 // Where bytes are shown from: an offset of the heap, or the front of the fallback page, which is lent beside it.
-#[derive(Drop)]
+#[derive(Clone, Copy)]
 pub enum Place {
     Heap(u32),
     Page,
 }
 
 // Bytes that are shown to the caller where they lie.
-#[derive(Drop)]
+#[derive(Clone, Copy)]
 pub struct View {
     pub place: Place,
     pub len: u32,
 }
 
 // What a read comes to: bytes that are shown where they lie.
-#[derive(Drop)]
+#[derive(Clone, Copy)]
 pub enum Looked {
     Shown(View),
     Refused(Refusal),

@@ -1,4 +1,6 @@
 // Stored numbers: 32 bits in four bytes, lowest first.
+#![tactic(auto)]
+
 ghost use Rattle.std.specs.Prelude.{◌≡◌, ◌%◌, ◌<◌, get_or};
 ghost use Rattle.words.specs.Word.{word_of, word_at, put_word};
 

@@ -1,5 +1,7 @@
 // Writing over bytes: the definition and its laws, for the contracts and proofs of the crates above, the one copy from
 // lent bytes to lent bytes, and the one move within lent bytes.
+#![tactic(auto)]
+
 ghost use Rattle.std.specs.Prelude.{◌≡◌, ◌≤◌, length, take, drop};
 ghost use Rattle.writing.specs.Overwrite.{overwrite};
 
@@ -15,11 +17,13 @@ fn block_move(source: &[u8], target: &mut [u8]) -> usize
 {
     let count = source.len();
     if LONGEST < count {
-        return bytes::copy(source, target);
+        target[0..count].copy_from_slice(source);
+        return count;
     }
     let mut block = [0u8; LONGEST];
-    bytes::copy(source, &mut block);
-    bytes::copy(&block[0..count], target)
+    block[0..count].copy_from_slice(source);
+    target[0..count].copy_from_slice(&block[0..count]);
+    count
 }
 
 // Writes the source, as far as it fits.

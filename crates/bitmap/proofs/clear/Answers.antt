@@ -1,0 +1,12 @@
+-- `bitmap::clear` meets its contract: the byte it writes has the slot's weight taken off where the bit was set.
+use Rattle.bitmap.proofs.Slot.{put_beyond, put_past, clear_within}
+use Rattle.bitmap.proofs.clear.Goals as goal
+
+pub returns-then-slots-slot : goal.returns-then-slots-slot
+returns-then-slots-slot c = put_beyond _ _ _ _ c.if-slots-slot.true
+
+pub returns-then-at-bitmap : goal.returns-then-at-bitmap
+returns-then-at-bitmap c = rw c.bit_of.ensures (clear_within _ _ _ c.if-slots-slot.false)
+
+pub returns-else-at-bitmap : goal.returns-else-at-bitmap
+returns-else-at-bitmap c = put_past _ _ _ _ c.if-slots-slot.false c.if-at-bitmap.false

@@ -1,0 +1,10 @@
+-- `copies::write_padded` meets its contract: the text, and then zeros up to the count or the room.
+use Rattle.copies.proofs.Contents.{padded_put}
+use Rattle.copies.proofs.write_padded.Goals as goal
+
+pub returns : goal.returns
+returns c =
+    let a = c.args in
+    let room = rw c.wide.ensures.0 at c.least-room.ensures in
+    padded_put a.source.now a.count a.target.now room c.least-seen.ensures c.find_zero-text.ensures
+    c.write.ensures.1 c.clear.ensures

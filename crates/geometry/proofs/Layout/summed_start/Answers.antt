@@ -1,0 +1,17 @@
+-- `Layout::summed_start` meets its contract. The loop's invariant: the sum up to a class is where its bitmap starts.
+use mathlib.Core.Path.{refl}
+use native.Mathlib.Omega.{arith}
+use Rattle.geometry.specs.Layout.{bitmap_at}
+use Rattle.geometry.proofs.Geometry.{bitmap_next, bitmap_same}
+use Rattle.geometry.proofs.Layout.summed_start.Goals as goal
+
+pub loop-passed-init : goal.loop-passed-init
+unfolding bitmap_at
+loop-passed-init c = (omega arith, refl, omega arith)
+
+pub loop-passed-preserved : goal.loop-passed-preserved
+loop-passed-preserved c =
+    (omega arith, bitmap_next _ _ c.loop-passed.invariant.1 c.bitmap_length-at.ensures.0, omega arith)
+
+pub returns : goal.returns
+returns c = (bitmap_same _ _ _ c.loop-passed.invariant.1 (omega arith), omega arith)

@@ -1,0 +1,13 @@
+-- `skip` meets its contract. The loop's invariant: no byte sought comes before `at`, and whole blocks do.
+use Prim.Native.Nat.{◌+◌, ◌%◌, ◌≤◌}
+use mathlib.Core.Path.{◌≡◌}
+use lib.ListN.{length}
+use Rattle.span.specs.Pattern.{first_sought}
+use Rattle.span.proofs.skip.Given as goal
+
+abbrev pub invariant-loop-left : goal.invariant-loop-left
+invariant-loop-left l =
+    (l.at ≤ first_sought l.equal l.period l.pattern l.bytes) × (l.at % l.block ≡ 0) × (l.at + l.left ≡ length l.bytes)
+
+abbrev pub decreases-loop-left : goal.decreases-loop-left
+decreases-loop-left l = l.left
