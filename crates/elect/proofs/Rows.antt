@@ -161,7 +161,3 @@ module _ {base : ℕ} {row : List Bool} {n : ℕ} where
         drop-cons (take n row) (i - 1) false l
         ∙ rw (p, get_or-take n row (i - 1) false (omega (arith, s.within))) in
         record { within = omega (arith, s.within); so_far = rw (next, (digit (get_or row (i - 1) false)).0, s.so_far) }
-
-    -- all summed
-    pub summed_all : i ≤ 0 → sum ≡ digits base (take n row)
-    summed_all h = let z : i ≡ 0 = omega arith in (rw z at s).so_far

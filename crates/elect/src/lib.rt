@@ -1,4 +1,6 @@
 // Rows of all replicas: groups of them, and the winner of a table of which two agree.
+#![tactic(auto)]
+
 ghost use Rattle.std.specs.Prelude.{◌≡◌, ◌≤◌, min, take, get_or};
 ghost use Rattle.search.specs.Tabulate.{tabulate};
 ghost use Rattle.elect.specs.Leader.{most, digits, elected_of, instead};
@@ -9,7 +11,7 @@ use numbers::least;
 pub const MOST: usize = 16;
 
 // The lowest-numbered replica with most votes, how many these are, and whose.
-#[derive(Drop)]
+#[derive(Clone, Copy)]
 pub struct Elected {
     pub replica: u32,
     pub count: u32,

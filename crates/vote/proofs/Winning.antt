@@ -1,8 +1,8 @@
 -- Who wins a count: those who share the winning content, and so a majority.
-use Prim.Native.Nat.{ℕ, ◌+◌, ◌*◌, ◌≤◌, ◌<◌}
+use Prim.Native.Nat.{ℕ, ◌*◌, ◌≤◌, ◌<◌}
 use native.Mathlib.Omega.{arith}
 use mathlib.Core.Path.{◌≡◌, refl, sym, ap, ◌∙◌}
-use mathlib.Core.Bool.{Bool, true, false, cond, ◌&&◌, and-eq-true_iff}
+use mathlib.Core.Bool.{Bool, true, false, ◌&&◌, and-eq-true_iff}
 use mathlib.Core.List.{List, []}
 use lib.ListN.{get_or}
 use lib.Dec.{ltb}
@@ -15,7 +15,7 @@ use Rattle.answer.specs.declared.Refusal.TheVariants.{NoAgreement}
 use Rattle.elect.specs.Leader.{most, votes, leader}
 use Rattle.elect.proofs.Rows.{Apart, votes_apart}
 use Rattle.elect.proofs.Leading.{leader_le, leader_most}
-use Rattle.vote.specs.Decide.{Decision, won, lost, agree, sharing, row, agreements, count}
+use Rattle.vote.specs.Decide.{won, lost, agree, sharing, row, agreements, count}
 use Rattle.vote.proofs.Comparing.{agree_self, agree_both, agree_same}
 use Rattle.vote.proofs.Decision.{says_no, row_at_lem, row_own, row_same}
 

@@ -1,4 +1,6 @@
 // The vote: what most replicas wrote goes on, if two or more wrote it.
+#![tactic(auto)]
+
 mod compare;
 
 ghost use Rattle.std.specs.Prelude.{◌≡◌, ◌≤◌, length};
@@ -17,7 +19,7 @@ pub const LONGEST_BLOCK: usize = 4096;
 
 // How many replicas there are, how far apart their outputs lie, and in each the place and the length of the bytes that
 // are compared.
-#[derive(Drop)]
+#[derive(Clone, Copy)]
 pub struct Places {
     pub replicas: usize,
     pub apart: usize,
@@ -25,7 +27,7 @@ pub struct Places {
     pub len: usize,
 }
 
-#[derive(Drop)]
+#[derive(Clone, Copy)]
 pub enum Verdict {
     // The winning replicas as a mask (bit r for replica r), how many they are, and the lowest-numbered of them.
     Agreed { mask: u32, count: u32, replica: u32 },

@@ -1,16 +1,15 @@
 -- What the words of the theorems mean, on examples and near misses.
-use Prim.Native.Nat.{ℕ, ◌*◌, ◌≤◌}
-use native.Mathlib.Omega.{arith}
+use Prim.Native.Nat.{ℕ, ◌*◌}
 use mathlib.Core.Path.{◌≡◌, refl}
-use mathlib.Core.Bool.{Bool, true, false}
+use mathlib.Core.Bool.{true, false}
 use mathlib.Core.List.{List, [], ◌∷◌, ◌++◌}
-use lib.ListN.{replicate, take}
+use lib.ListN.{replicate}
 use Rattle.search.specs.First.{first}
 use Rattle.search.specs.Tabulate.{tabulate}
 use Rattle.alike.specs.Alike.{alike}
 use Rattle.elect.specs.Leader.{digits, votes, mask_of, leader}
 use Rattle.vote.specs.Decide.{count, agreed_by}
-use Rattle.whole.specs.Whole.{Voted, through, whole}
+use Rattle.whole.specs.Whole.{through, whole}
 use Rattle.whole.specs.Outputs.{output_of, having}
 
 -- ---- outputs

@@ -1,10 +1,10 @@
 -- Who is left: those whose output has been written so far, block after block.
-use Prim.Native.Nat.{ℕ, zero, suc, ◌+◌, ◌-◌, ◌*◌, ◌/◌, ◌≤◌, ◌<◌, min}
+use Prim.Native.Nat.{ℕ, ◌+◌, ◌-◌, ◌*◌, ◌≤◌, min}
 use native.Mathlib.Omega.{arith}
 use mathlib.Core.Path.{◌≡◌, refl, sym, ap, ap₂, ◌∙◌}
-use mathlib.Core.Bool.{Bool, true, false, ◌&&◌, and-true, and_assoc}
+use mathlib.Core.Bool.{Bool, false, ◌&&◌, and-true, and_assoc}
 use mathlib.Core.List.{List}
-use lib.ListN.{length, get_or, take, drop, length-take, length-drop}
+use lib.ListN.{length, get_or, take, drop, length-take}
 use lib.Seq.{take_all, take-take, drop-drop}
 use lib.Dec.{ltb}
 use Rattle.search.proofs.Tabulate.{tabulate_at, tabulate_same}

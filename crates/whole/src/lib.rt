@@ -1,4 +1,6 @@
 // The vote on whole outputs: they vote block by block, and who loses a block takes no part in later ones.
+#![tactic(auto)]
+
 ghost use Rattle.std.specs.Prelude.{◌≡◌, ◌≤◌, false, length};
 ghost use Rattle.vote.specs.Decide.{first_of, invalid};
 ghost use Rattle.whole.specs.Whole.{longest_output, blocks, block_at, through, whole, answer_of};
@@ -9,7 +11,7 @@ use vote::{LONGEST_BLOCK, Places, Verdict};
 
 const LONGEST_OUTPUT: usize = 1048576;
 
-#[derive(Drop)]
+#[derive(Clone, Copy)]
 pub enum Consensus {
     // Those who are left as a mask (bit r for replica r), how many they are, and the lowest-numbered of them.
     Agreed { mask: u32, count: u32, replica: u32 },

@@ -1,0 +1,26 @@
+-- `through` meets its contract. The loop's invariant: the blocks before this one are voted on.
+use mathlib.Core.Path.{ap}
+use Rattle.vote.specs.declared.Places.{Places}
+use Rattle.vote.proofs.Decision.{allowed}
+use Rattle.whole.proofs.Blocks.{reached_none, reached_lost, reached_all, reached_more}
+use Rattle.whole.proofs.through.Goals as goal
+
+pub loop-mask-init : goal.loop-mask-init
+loop-mask-init c = reached_none c.args.outputs.now c.args.output.now (allowed c.requires) c.first-still.ensures
+
+-- no two agree in this block
+pub returns-in_default : goal.returns-in_default
+returns-in_default c =
+    reached_lost c.loop-mask.invariant (rw c.block_at-p.ensures at c.step-step.ensures) c.in_default.is
+
+pub returns-then-at-len : goal.returns-then-at-len
+returns-then-at-len c =
+    let size = ap (λ (p : Places). p.len) c.block_at-p.ensures in
+    let stepped = rw c.block_at-p.ensures at c.step-step.ensures in
+    reached_all c.loop-mask.invariant stepped c.in-Agreed.is size c.if-at-len.true
+
+pub loop-mask-preserved : goal.loop-mask-preserved
+loop-mask-preserved c =
+    let size = ap (λ (p : Places). p.len) c.block_at-p.ensures in
+    let stepped = rw c.block_at-p.ensures at c.step-step.ensures in
+    reached_more c.loop-mask.invariant stepped c.in-Agreed.is size c.if-at-len.false
