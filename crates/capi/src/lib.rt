@@ -1,5 +1,7 @@
 // The C interface (include/poheldu.h): a buffer passes as a pointer and a length. Each function only turns answers into
 // numbers.
+#![tactic(auto)]
+
 mod slots;
 
 ghost use Rattle.std.specs.Prelude.{◌≡◌, length};
@@ -23,14 +25,14 @@ use vote::Verdict;
 use whole::Consensus;
 
 #[repr(C)]
-#[derive(Drop)]
+#[derive(Clone, Copy)]
 pub struct PohelduAnswer {
     pub number: u32,
     pub value: u32,
 }
 
 #[repr(C)]
-#[derive(Drop)]
+#[derive(Clone, Copy)]
 pub struct PohelduVerdict {
     pub number: u32,
     pub mask: u32,
@@ -39,7 +41,7 @@ pub struct PohelduVerdict {
 }
 
 #[repr(C)]
-#[derive(Drop)]
+#[derive(Clone, Copy)]
 pub struct PohelduPart {
     pub number: u32,
     pub value: u32,
@@ -49,7 +51,7 @@ pub struct PohelduPart {
 
 // A slot, live or clear: its class and its number there, and where its bytes lie.
 #[repr(C)]
-#[derive(Drop)]
+#[derive(Clone, Copy)]
 pub struct PohelduSlot {
     pub size_class: u32,
     pub number: u32,

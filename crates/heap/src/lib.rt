@@ -1,4 +1,6 @@
 // The heap: opening, seven operations and one entry point for requests, and reads with plain arguments.
+#![tactic(auto)]
+
 mod allocate;
 mod bits;
 mod copy;

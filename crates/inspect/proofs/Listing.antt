@@ -3,21 +3,16 @@ use Prim.Native.Nat.{ℕ, suc, min, ◌+◌, ◌-◌, ◌<◌, ◌≤◌}
 use mathlib.Core.Path.{◌≡◌, refl, sym, ap, ◌∙◌}
 use mathlib.Core.Bool.{Bool}
 use mathlib.Core.List.{List, [], ◌∷◌}
-use native.Mathlib.Nat.{sub-zero, zero-add, add-zero, sub-eq-zero_of_le}
+use native.Mathlib.Nat.{zero-add, add-zero, sub-eq-zero_of_le}
 use native.Mathlib.Omega.{arith}
-use borrow.Author.Tests.{lt-ltb, le-ltb}
 use lib.ListN.{length, take, drop, get_or, set, length-drop, length-take}
-use lib.Seq.{take_all, take-length, paste, paste-zero, paste-suc, length-paste, drop-drop, get_or-drop}
+use lib.Seq.{take-length, paste, paste-suc, length-paste, drop-drop, get_or-drop}
 use Rattle.numbers.proofs.Cut.{take_min}
 use Rattle.search.specs.First.{first}
 use Rattle.search.specs.Those.{those}
 use Rattle.search.proofs.First.{first_range}
 use Rattle.search.proofs.Those.{those_next, those_none, those_few}
 use Rattle.writing.specs.Overwrite.{overwrite}
-use Rattle.writing.proofs.Parts.{no_bytes}
-use Rattle.answer.specs.declared.Refusal.TheVariants.{ListTooShort}
-use Rattle.answer.specs.Reply.{served}
-use Rattle.rules.specs.Inspect.{unlisted, listed, listed_whole}
 
 module _ (test : ℕ → Bool) (n : ℕ) (list₀ : List ℕ) where
   abbrev pub all : List ℕ
@@ -28,11 +23,6 @@ module _ (test : ℕ → Bool) (n : ℕ) (list₀ : List ℕ) where
     pub few : found ≤ length all
     pub ahead : drop found all ≡ those test at (n - at)
     pub wrote : list ≡ paste list₀ 0 all (min found (length list₀))
-
-  pub listing_none : Listing list₀ 0 0
-  listing_none =
-      let none : min 0 (length list₀) ≡ 0 = omega arith in
-      record { few = omega arith; ahead = rw (sub-zero n); wrote = rw none (paste-zero list₀ 0 all) }
 
   module _ {list : List ℕ} {found at : ℕ} (so : Listing list found at) where
     pub listing_length : length list ≡ length list₀
@@ -90,20 +80,3 @@ module _ (test : ℕ → Bool) (n : ℕ) (list₀ : List ℕ) where
           let (more, is, others) = one_more l in
           let same : min (found + 1) (length list₀) ≡ min found (length list₀) = omega arith in
           record { few = omega arith; ahead = others; wrote = rw same so.wrote }
-
--- ---- all of them, or none
-
-module _ (list offsets : List ℕ) {wanted : ℕ} (count : wanted ≡ length offsets) where
-  pub list_short : length list < wanted → listed_whole list offsets ≡ unlisted list ListTooShort
-  list_short h = rw (lt-ltb (length list) (length offsets) (rw (← count) h))
-
-  pub list_fits : wanted ≤ length list → (listed_whole list offsets ≡ listed list offsets) × (take (length list) offsets ≡ offsets)
-  list_fits h =
-      let room : length offsets ≤ length list = rw (← count) h in
-      (rw (le-ltb (length list) (length offsets) room), take_all (length list) offsets room)
-
-  pub list_none : wanted ≡ 0 → listed_whole list offsets ≡ record { answer = served 0; list = list }
-  list_none e =
-      let none : length offsets ≡ 0 = sym count ∙ e in
-      let (whole, all) = list_fits (omega arith) in
-      whole ∙ rw (no_bytes offsets none)

@@ -17,10 +17,6 @@ use Rattle.canary.specs.Canary.{first_damage, has_damage}
 use Rattle.canary.proofs.Damage.{damage_le, part_damage}
 use Rattle.inspect.specs.Class.{is_hit_in, SideBySide}
 
--- a slot begins among the bytes
-pub starts_inside : (bytes : List ℕ) (slots size : ℕ) → SideBySide bytes slots size → (slot : ℕ) → slot < slots → slot * size ≤ length bytes
-starts_inside bytes slots size lie slot h = rw lie.all (mul-le-mul_right size (omega arith))
-
 module _ (canary : ℕ) (bytes bitmap : List ℕ) (slots size : ℕ) (lie : SideBySide bytes slots size) where
   abbrev test : ℕ → Bool
   test = is_hit_in canary bytes bitmap slots size
@@ -93,9 +89,6 @@ module _ (canary : ℕ) (bytes bitmap : List ℕ) (slots size : ℕ) (lie : Side
   module _ {d k : ℕ} (looked : d ≡ first_damage canary (take (length bytes - slot * size) (drop (slot * size) bytes))) (divided : k ≡ d / size) where
     found : d ≡ first_damage canary (drop (slot * size) bytes)
     found = looked ∙ ap (first_damage canary) (take_all (length bytes - slot * size) (drop (slot * size) bytes) (le_of_eq (length-drop (slot * size) bytes)))
-
-    pub intact_inside : slot + k ≤ slots
-    intact_inside = rw divided (not_beyond canary bytes bitmap slots size lie slot h found)
 
     pub intact_passed : rest_of slot ≡ rest_of (slot + k)
     intact_passed = rw divided (skipped canary bytes bitmap slots size lie slot h found)

@@ -1,4 +1,6 @@
 // Inspection: the offsets of all clear slots that no longer hold the canary throughout.
+#![tactic(auto)]
+
 ghost use Rattle.std.specs.Prelude.{◌≡◌, suc, ◌-◌, ◌*◌, ◌/◌, ◌<◌, length, take};
 ghost use Rattle.search.specs.First.{first};
 ghost use Rattle.writing.specs.Overwrite.{overwrite};

@@ -5,7 +5,7 @@ use mathlib.Core.Bool.{Bool, true, false, false≢true, ◌&&◌}
 use mathlib.Core.List.{List, [], ◌∷◌}
 use native.Mathlib.Nat.{not-suc-le-zero, le_of_suc-le-suc}
 use lib.ListN.{length, get_or}
-use Rattle.bytes.specs.Bytes.{index_of, index_after}
+use Rattle.scan.specs.Bytes.{index_of, index_after}
 use Rattle.search.specs.First.{first}
 use Rattle.search.specs.Those.{those}
 use Rattle.mwc.specs.Draw.{is_one_of}

@@ -1,5 +1,7 @@
 // Requests served as their bytes come: those that are whole at once, and the rest when the next bytes are there or the
 // input has ended.
+#![tactic(auto)]
+
 ghost use Rattle.std.specs.Prelude.{◌≡◌, [], ◌+◌, ◌<◌, ◌≤◌, length};
 ghost use Rattle.writing.specs.Overwrite.{overwrite};
 ghost use Rattle.request.specs.Parse.{request_size};
@@ -11,7 +13,7 @@ ghost use Rattle.pieces.specs.Pieces.{ready_length, ready, rest};
 const REQUEST: usize = request::SIZE;
 
 // How many bytes of lines are written, the number of the line after them, and how many bytes are kept.
-#[derive(Drop)]
+#[derive(Clone, Copy)]
 pub struct Served {
     pub written: usize,
     pub next: u64,

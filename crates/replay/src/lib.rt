@@ -1,4 +1,6 @@
 // Replaying requests: each is served and answered by a line of text.
+#![tactic(auto)]
+
 ghost use Rattle.std.specs.Prelude.{◌≡◌, suc, ◌+◌, ◌-◌, ◌*◌, ◌^◌, ◌<◌, ◌≤◌, min, length};
 ghost use Rattle.decimal.specs.Decimal.{width};
 ghost use Rattle.writing.specs.Overwrite.{overwrite};
@@ -86,7 +88,7 @@ fn request_end(at: usize, len: usize) -> usize
 }
 
 // How many bytes of lines are written, and the number of the line after them.
-#[derive(Drop)]
+#[derive(Clone, Copy)]
 pub struct Done {
     pub written: usize,
     pub next: u64,

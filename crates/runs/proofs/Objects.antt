@@ -1,6 +1,6 @@
 -- Lists of objects that are slots.
 use Prim.Native.Nat.{ℕ, suc, ◌+◌, ◌≤◌, ◌<◌}
-use mathlib.Core.Path.{◌≡◌, refl, sym, ap, ◌∙◌}
+use mathlib.Core.Path.{◌≡◌, refl, sym, subst, ap, ◌∙◌}
 use mathlib.Core.Bool.{Bool, true, false, cond, ◌&&◌}
 use mathlib.Core.List.{List, [], ◌∷◌}
 use native.Mathlib.Omega.{arith}
@@ -126,7 +126,9 @@ module _ (G : Layout) where
       where
         own : (locate G x).class ≡ o.class → (locate G x).slot ≡ s.slot
             → starting c (slot_start G c i) (o ∷ os) ≡ suc (starting c (slot_start G c i) os)
-        own p q = rw (sym class ∙ p, sym slot ∙ q) (starting_self o s os)
+        own p q =
+            let at : ℕ → ℕ → Type 0 = λ d j. starting d (slot_start G d j) (o ∷ os) ≡ suc (starting d (slot_start G d j) os) in
+            subst (λ d. at d i) (sym (sym class ∙ p)) (subst (at o.class) (sym (sym slot ∙ q)) (starting_self o s os))
 
     -- at most one has it, where at most one starts at each slot
     pub holding_one : (os : List Object) → Slots G os → ((c i : ℕ) → i < slots G c → starting c (slot_start G c i) os ≤ 1) → holding G x os ≤ 1

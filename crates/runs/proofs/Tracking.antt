@@ -9,7 +9,7 @@ use native.Mathlib.Omega.{arith}
 use borrow.Author.Tests.{eq-eqb, ne_eqb}
 use Rattle.geometry.specs.declared.Layout.{Layout}
 use Rattle.geometry.specs.Layout.{classes, slots, slot_start}
-use Rattle.bitmap.specs.Bitmap.{bit, count_set}
+use Rattle.bitmap.specs.Bitmap.{count_set}
 use Rattle.bitmap.proofs.Counted.{count_none, count_same, count_but_one}
 use Rattle.request.specs.declared.Request.{Request}
 use Rattle.request.specs.declared.Request.TheVariants.{Allocate, Free, Remaining, Copy, Read}

@@ -22,7 +22,7 @@ use Rattle.judge.specs.declared.Judged.TheVariants.{Laid, Unfit}
 use Rattle.judge.specs.Judge.{admit}
 use Rattle.rules.specs.Serve.{Lent}
 use Rattle.rules.specs.Call.{serve}
-use Rattle.runs.specs.Run.{Entry, Event, history}
+use Rattle.runs.specs.Run.{Entry, Event, history, step_of}
 use Rattle.runs.specs.Pair.{Served, Measures, Pair, allocations, frees, measurings, refusals, PairOff}
 use Rattle.runs.specs.Wordings.{At}
 use Rattle.runs.specs.Wordings.{Trait, allocates_in, frees_at, measures, refused_with, served_trait, trait, Refuses}
@@ -101,4 +101,4 @@ pub history_refuses : (m : List ℕ) (es : List Entry) (i : ℕ) (a : Event) →
 unfolding history
 history_refuses m [] i a at = absurd (at_nowhere at)
 history_refuses m (e ∷ es) zero a at = rw (← at_first at) (serve_refuses (length e.heap) m e.request e.lent)
-history_refuses m (e ∷ es) (suc i) a at = history_refuses _ es i a at
+history_refuses m (e ∷ es) (suc i) a at = history_refuses (step_of m e).metadata es i a at

@@ -3,7 +3,7 @@
 use Rattle.std.specs.Prelude.{ℕ, ◌+◌, ◌/◌, ◌%◌, ◌^◌, ◌≤◌, ◌<◌, ◌≡◌, Bool, true, false, cond, ◌&&◌, ◌||◌, ◌⊎◌, eqb, length, get_or}
 use Rattle.std.proofs.Math.Option.{some}
 use mathlib.Core.List.{List, [], ◌∷◌, ◌++◌, filter}
-use Rattle.std.proofs.Math.Logic.{Dec·and}
+use mathlib.Core.Logic.Dec
 use Rattle.std.proofs.Math.Decide.{ℕ_discrete, dec_le, dec_lt}
 use Rattle.std.proofs.Math.ListN.{get_elem?}
 use Rattle.search.specs.Those.{those}
@@ -34,7 +34,7 @@ abbrev pub Has : Layout → ℕ → Object → Type 0
 Has G x o = (o.start ≤ x) × (x < end_of G o)
 
 abbrev pub having : Layout → ℕ → List Object → List Object
-having G x os = filter {p = Has G x} (λ o. Dec·and (dec_le o.start x) (dec_lt x (end_of G o))) os
+having G x os = filter {p = Has G x} (λ o. Dec.and (dec_le o.start x) (dec_lt x (end_of G o))) os
 
 abbrev pub in_class : ℕ → List Object → List Object
 in_class c os = filter {p = λ (o : Object). o.class ≡ c} (λ o. ℕ_discrete o.class c) os
