@@ -2,11 +2,10 @@
 use Prim.Native.Nat.{ℕ, ◌+◌, ◌-◌, ◌*◌, ◌^◌, ◌≤◌, ◌<◌}
 use native.Mathlib.Omega.{arith}
 use borrow.Author.Tests.{le-leb}
-use mathlib.Core.Path.{◌≡◌, refl, sym, ◌∙◌}
-use mathlib.Core.Bool.{true}
+use mathlib.Core.Path.{◌≡◌, sym, ◌∙◌}
 use mathlib.Core.List.{List, [], ◌++◌, append_assoc, append-nil}
 use lib.ListN.{length, take, drop, length-append, length-drop}
-use Rattle.bytes.specs.Bytes.{slice, index_of}
+use Rattle.scan.specs.Bytes.{slice, index_of}
 use Rattle.writing.proofs.Writing.{overwrite_length}
 use Rattle.request.specs.Parse.{request_size}
 use Rattle.line.specs.Line.{read_line, request_of}
@@ -14,10 +13,9 @@ use Rattle.line.specs.declared.Line.{Line}
 use Rattle.messages.specs.Put.{Put}
 use Rattle.messages.specs.Message.{message_room, message_within}
 use Rattle.assembly.specs.Batch.{newline, lines, unended, used, requests_of, messages_of, requests_in, messages_in}
-use Rattle.assembly.specs.Batch.{done_of, fits}
+use Rattle.assembly.specs.Batch.{done_of}
 use Rattle.assembly.specs.declared.Done.{Done}
-use Rattle.assembly.proofs.Room.{room_known}
-use Rattle.messages.proofs.Putting.{two_put, nothing_put}
+use Rattle.messages.proofs.Putting.{two_put}
 use Rattle.assembly.proofs.Splitting.{split_lines, split_rest, line_found, no_line}
 
 -- of all that is to be written at the front of a buffer, the part before place n is
@@ -62,24 +60,6 @@ pub record Assembled (input : List ℕ) (number : ℕ) (out₀ errors₀ out err
   pub numbers : next + (length input - at) < 2 ^ 64
 
 module _ {input : List ℕ} {number : ℕ} {out₀ errors₀ : List ℕ} where
-  -- nothing is read yet
-  pub assembled_none : {end : ℕ} → fits (length input) number (length out₀) (length errors₀) ≡ true
-      → end ≡ 0 + index_of newline (slice 0 (length input) input) → end ≤ length input
-      → Assembled input number out₀ errors₀ out₀ errors₀ 0 number 0 0 end
-  assembled_none room f w =
-      let (r, m, n) = room_known (length input) number (length out₀) (length errors₀) room in
-      record {
-        requests = record { part = []; put = nothing_put; room = omega arith; split = refl };
-        messages = record { part = []; put = nothing_put; room = omega arith; split = refl };
-        lines_rest = refl;
-        text_rest = refl;
-        found = f;
-        within = w;
-        requests_room = omega arith;
-        messages_room = omega arith;
-        numbers = omega arith;
-      }
-
   module _ {out errors : List ℕ} {at next filled said end : ℕ}
       (p : Assembled input number out₀ errors₀ out errors at next filled said end) where
     start : at ≤ end

@@ -1,19 +1,17 @@
 -- Which kinds of lines ask for no request.
+use Prim.Native.Nat.{ℕ}
 use mathlib.Core.Path.{◌≡◌, refl}
-use mathlib.Core.List.{[], ◌∷◌}
-use denote.Enum.Declared.{tag_of}
-use types.Run.{OneOf, miss}
+use mathlib.Core.List.{[]}
 use Rattle.line.specs.Line.{request_of}
 use Rattle.line.specs.declared.Line.{Line}
 use Rattle.line.specs.declared.Line.TheVariants.{Request, Nothing, BadOperation, BadNumber, TrailingText, TooLong}
-use Rattle.line.specs.contracts.Line.{the_type}
 
--- the kinds by their numbers, in the order of the declaration
-pub no_request : (line : Line) → OneOf (1 ∷ 2 ∷ 3 ∷ 4 ∷ 5 ∷ []) (tag_of the_type line) → request_of line ≡ []
+pub no_request : (line : Line) → ((operation argument count : ℕ) → line ≡ Request operation argument count → ⊥)
+    → request_of line ≡ []
 unfolding request_of
-no_request (Request operation argument count) k = absurd (miss (1 ∷ 2 ∷ 3 ∷ 4 ∷ 5 ∷ []) 0 tt k)
-no_request Nothing k = refl
-no_request (BadOperation w) k = refl
-no_request (BadNumber w) k = refl
-no_request (TrailingText w) k = refl
-no_request TooLong k = refl
+no_request (Request operation argument count) none = absurd (none operation argument count refl)
+no_request Nothing none = refl
+no_request (BadOperation w) none = refl
+no_request (BadNumber w) none = refl
+no_request (TrailingText w) none = refl
+no_request TooLong none = refl

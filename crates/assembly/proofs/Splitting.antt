@@ -7,7 +7,7 @@ use mathlib.Core.List.{List, [], ◌∷◌, ◌++◌, append_assoc, append-nil}
 use lib.ListN.{length, take, drop, length-drop}
 use lib.Seq.{take-length, drop-drop}
 use lib.Dec.{eqb}
-use Rattle.bytes.specs.Bytes.{slice, index_of, index_after}
+use Rattle.scan.specs.Bytes.{slice, index_of, index_after}
 use Rattle.assembly.specs.Batch.{newline, lines_from, unended_from, lines, unended}
 
 -- a text after the start of a line, the lines that it ends, and what is left: the next byte ends the line, or is one of
@@ -73,7 +73,6 @@ first_end (b ∷ text) line = go (first_end text (line ++ (b ∷ []))) (eqb b ne
 -- a line starts at a place, and the next line end or the end of the input is found
 module _ (input : List ℕ) (at end : ℕ) (found : end ≡ at + index_of newline (slice at (length input) input)) where
   here : First [] (drop at input) (end - at)
-  unfolding slice
   here =
       let e : end ≡ at + index_of newline (drop at input) = rw take-length at found in
       let k : end - at ≡ index_of newline (drop at input) = omega arith in

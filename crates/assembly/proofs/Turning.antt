@@ -1,5 +1,5 @@
 -- One turn: a text is gathered, its lines are read, and the start of the next one is kept.
-use Prim.Native.Nat.{ℕ, ◌+◌, ◌-◌, ◌^◌, ◌≤◌, ◌<◌, min}
+use Prim.Native.Nat.{ℕ, ◌+◌, ◌-◌, ◌≤◌, min}
 use mathlib.Core.Path.{◌≡◌, refl, ap, ◌∙◌}
 use mathlib.Core.Bool.{Bool, true, false}
 use mathlib.Core.List.{List}
@@ -15,7 +15,7 @@ use Rattle.assembly.specs.Pieces.{longest_start}
 use Rattle.assembly.specs.Turn.{text_in, Taken, assemble}
 use Rattle.assembly.specs.declared.Done.{Done}
 use Rattle.assembly.proofs.Gathering.{Gathers}
-use Rattle.assembly.proofs.Room.{Admits, room_left}
+use Rattle.assembly.proofs.Room.{Admits}
 
 -- what a turn answers and leaves, and the front of a buffer as it is lent
 abbrev pub turned : (kept next requests messages : ℕ) → List ℕ → List ℕ → List ℕ → Taken
@@ -35,9 +35,6 @@ module _ (input : List ℕ) (kept got number : ℕ) (out errors : List ℕ) {end
     (told : Admits end number (length out) (length errors) len) where
   size : length (front len buffer) ≡ len
   size = rw (sub-zero len) (length-take-le len buffer (omega (arith, g.0.1, told.1)))
-
-  pub room_for : number < 2 ^ 64 → fits (length (front len buffer)) number (length out) (length errors) ≡ true
-  room_for h = rw size (room_left end number (length out) (length errors) told h)
 
   -- what is read lies at the front
   text : admitted (text_in input kept got) number (length out) (length errors) ≡ front len buffer

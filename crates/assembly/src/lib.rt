@@ -1,4 +1,6 @@
 // All lines of an input, one after another, to requests and to messages about bad lines.
+#![tactic(auto)]
+
 ghost use Rattle.std.specs.Prelude.{◌≡◌, true, cond, ◌+◌, ◌≤◌, length, drop};
 ghost use Rattle.writing.specs.Overwrite.{overwrite};
 ghost use Rattle.request.specs.Parse.{request_size};
@@ -21,7 +23,7 @@ const NEWLINE: u8 = b'\n';
 
 // How much of an input is read, the number of the line after it, and how many bytes of requests and of messages are
 // written.
-#[derive(Drop)]
+#[derive(Clone, Copy)]
 struct Done {
     used: usize,
     next: u64,
@@ -31,7 +33,7 @@ struct Done {
 
 // How many bytes are kept of a line whose end is not read yet, the number of that line, and how many bytes of requests
 // and of messages are written.
-#[derive(Drop)]
+#[derive(Clone, Copy)]
 pub struct Turn {
     pub kept: usize,
     pub next: u64,
@@ -71,7 +73,7 @@ fn put_request(line: Line, out: &mut [u8], at: usize) -> usize
     };
     let bytes = request::encode(operation, argument, count);
     let end = at + request::SIZE;
-    bytes::copy(&bytes, &mut out[at..end]);
+    out[at..end].copy_from_slice(&bytes);
     end
 }
 
@@ -89,7 +91,7 @@ fn assemble_lines(input: &[u8], number: u64, out: &mut [u8], errors: &mut [u8]) 
     let mut next = number;
     let mut requests: usize = 0;
     let mut messages: usize = 0;
-    let mut end = bytes::scan::find(input, 0, input.len(), NEWLINE);
+    let mut end = scan::find(input, 0, input.len(), NEWLINE);
     while end < input.len() {
         let text = &input[used..end];
         let line = line::read(text);
@@ -97,7 +99,7 @@ fn assemble_lines(input: &[u8], number: u64, out: &mut [u8], errors: &mut [u8]) 
         messages = messages::put(text, line, next, errors, messages);
         next += 1;
         used = end + 1;
-        end = bytes::scan::find(input, used, input.len(), NEWLINE);
+        end = scan::find(input, used, input.len(), NEWLINE);
     }
     Done {
         used,

@@ -9,7 +9,7 @@ use borrow.Author.Tests.{lt-ltb, le-ltb, eq-eqb, ne_eqb}
 use lib.ListN.{length, take, get_or, length-append, length-take}
 use lib.Seq.{take-length, take-append_seam, get_or-append_seam}
 use lib.Dec.{eqb}
-use Rattle.bytes.specs.Bytes.{slice, index_of}
+use Rattle.scan.specs.Bytes.{slice, index_of}
 use Rattle.line.specs.Text.{carriage_return, trimmed_end, trimmed}
 use Rattle.line.specs.Line.{statement, hash, longest_line, read_text, read_line}
 use Rattle.line.specs.declared.Line.TheVariants.{TooLong}
@@ -21,7 +21,7 @@ module _ (line : List ℕ) where
 
   pub short_text : {end : ℕ} → length line ≤ longest_line → end ≡ 0 + index_of hash (slice 0 (length line) line)
       → statement (take (end - 0) line) ≡ read_text line
-  unfolding read_text slice
+  unfolding read_text
   short_text {end} h e =
       let found : end ≡ index_of hash line = omega (arith, rw take-length at e) in
       rw (le-ltb longest_line (length line) h, ← found, sub-zero end)

@@ -3,7 +3,7 @@ use Rattle.std.specs.Prelude.{ℕ, cond, List, [], ◌∷◌, length, take, get_
 use Rattle.search.specs.First.{first}
 use Rattle.alike.specs.Alike.{alike}
 use Rattle.request.specs.Parse.{has_count, request_bytes}
-use Rattle.bytes.specs.Bytes.{index_of}
+use Rattle.scan.specs.Bytes.{index_of}
 use Rattle.line.specs.Text.{bytes, next_word, word_bytes, trimmed}
 use Rattle.line.specs.Number.{limit, number}
 use Rattle.line.specs.declared.Word.{Word}

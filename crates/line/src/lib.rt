@@ -1,6 +1,8 @@
 // Lines of text that ask for requests.
+#![tactic(auto)]
+
+mod finding;
 mod number;
-mod scan;
 
 ghost use Rattle.std.specs.Prelude.{◌≡◌, [], ◌<◌, ◌≤◌, length, get_or};
 ghost use Rattle.alike.specs.Alike.{alike};
@@ -10,18 +12,18 @@ ghost use Rattle.line.specs.Line.{names, operation_count, operation_of, request,
 ghost use Rattle.line.specs.Line.{statement, read_text, read_line};
 
 use alike::same;
+pub use finding::word_bytes;
 use request::has_count;
-pub use scan::word_bytes;
 
 // Where a word lies in its line.
-#[derive(Drop)]
+#[derive(Clone, Copy)]
 pub struct Word {
     pub start: usize,
     pub end: usize,
 }
 
 // What a line asks for. A bad line has the word that stands where another was expected, empty where none is left.
-#[derive(Drop)]
+#[derive(Clone, Copy)]
 pub enum Line {
     Request {
         operation: u32,
@@ -73,7 +75,7 @@ fn request(text: &[u8], from: usize, operation: u32, argument: u64, count: u64) 
     requires { (from ≤ length text.now) × (argument < limit) × (count < limit) }
     ensures { result ≡ request text.now from operation argument count }
 {
-    let word = scan::next(text, from);
+    let word = finding::next(text, from);
     if word.start != text.len() {
         return Line::TrailingText(word);
     }
@@ -89,8 +91,8 @@ fn counted(text: &[u8], from: usize, operation: u32, argument: u64) -> Line
     requires { (from ≤ length text.now) × (argument < limit) }
     ensures { result ≡ counted text.now from operation argument }
 {
-    let word = scan::next(text, from);
-    let count = number::of(scan::word_bytes(text, word));
+    let word = finding::next(text, from);
+    let count = number::of(finding::word_bytes(text, word));
     if number::LIMIT <= count {
         return Line::BadNumber(word);
     }
@@ -102,8 +104,8 @@ fn operands(text: &[u8], from: usize, operation: u32) -> Line
     requires { from ≤ length text.now }
     ensures { result ≡ operands text.now from operation }
 {
-    let word = scan::next(text, from);
-    let argument = number::of(scan::word_bytes(text, word));
+    let word = finding::next(text, from);
+    let argument = number::of(finding::word_bytes(text, word));
     if number::LIMIT <= argument {
         return Line::BadNumber(word);
     }
@@ -117,11 +119,11 @@ fn operands(text: &[u8], from: usize, operation: u32) -> Line
 fn statement(text: &[u8]) -> Line
     ensures { result ≡ statement text.now }
 {
-    let word = scan::next(text, 0);
+    let word = finding::next(text, 0);
     if word.start == text.len() {
         return Line::Nothing;
     }
-    let operation = operation_of(scan::word_bytes(text, word));
+    let operation = operation_of(finding::word_bytes(text, word));
     if operation == OPERATIONS {
         return Line::BadOperation(word);
     }
@@ -148,7 +150,7 @@ fn read_text(line: &[u8]) -> Line
     if LONGEST < line.len() {
         return Line::TooLong;
     }
-    let end = bytes::scan::find(line, 0, line.len(), b'#');
+    let end = scan::find(line, 0, line.len(), b'#');
     statement(&line[0..end])
 }
 

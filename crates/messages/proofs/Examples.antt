@@ -5,7 +5,7 @@ use Prim.Native.Nat.{ℕ}
 use lib.ListN.{length, replicate}
 use Rattle.search.specs.First.{first}
 use Rattle.alike.specs.Alike.{alike}
-use Rattle.bytes.specs.Bytes.{index_of, index_after}
+use Rattle.scan.specs.Bytes.{index_of, index_after}
 use Rattle.line.specs.Text.{bytes, is_blank, next_word, trimmed_end}
 use Rattle.line.specs.Number.{more, with_digits, number}
 use Rattle.line.specs.Line.{operation_of, request, counted, operands, statement, read_text, read_line}

@@ -1,4 +1,6 @@
 // What is said of a bad line, put at a place.
+#![tactic(auto)]
+
 ghost use Rattle.std.specs.Prelude.{◌+◌, ◌-◌, ◌≤◌, length};
 ghost use Rattle.messages.specs.Put.{Put};
 ghost use Rattle.messages.specs.Message.{found, said, expected_of, message_within};
@@ -20,7 +22,7 @@ fn put_text(text: &[u8], out: &mut [u8], at: usize) -> usize
     ensures { Put out.old at text.now result out.new }
 {
     let end = at + text.len();
-    bytes::copy(text, &mut out[at..end]);
+    out[at..end].copy_from_slice(text);
     end
 }
 
