@@ -1,10 +1,13 @@
 // Turns lines of text from standard input into requests on standard output, and names each bad line on standard error.
+#![tactic(auto)]
+
 ghost use Rattle.std.specs.Prelude.{◌≡◌, ◌⊎◌, ◌≤◌};
 ghost use Rattle.assemble.specs.Status.{status_after};
 
-use libc::STDERR_FILENO;
 use program::arguments::Choice;
 use program::{DONE, FAILED, arguments};
+use std::io::{Read, Write};
+use std::process::ExitCode;
 
 const BAD_LINES: u8 = 1;
 
@@ -13,41 +16,60 @@ const BAD_LINES: u8 = 1;
 const INPUT: usize = 2048;
 
 // Writes requests and messages, and answers the status after them, or that an output cannot be written.
-fn answer(status: u8, requests: &[u8], messages: &[u8]) -> u8
+#[tactic(auto, unfolding(crate::specs::Status::status_after))]
+fn answer<W: Write, E: Write>(
+    output: &mut W,
+    errors: &mut E,
+    status: u8,
+    requests: &[u8],
+    messages: &[u8],
+) -> u8
     ensures { (result ≡ 2) ⊎ (result ≡ status_after status messages.now) }
 {
-    if !program::print(requests, b"assemble: standard output") {
+    if !program::print(output, errors, requests, b"assemble: standard output") {
         return FAILED;
     }
     if messages.len() == 0 {
         return status;
     }
-    if io::write_all(STDERR_FILENO, messages) {
+    if errors.write_all(messages).is_ok() {
         return BAD_LINES;
     }
     FAILED
 }
 
-// Reads standard input to its end, and answers the status: which it is, the system decides.
-fn assemble_input() -> u8
+// Reads the input to its end, and answers the status: which it is, the system decides.
+#[tactic(auto, unfolding(crate::specs::Status::status_after))]
+fn assemble_input<R: Read, W: Write, E: Write>(reader: &mut R, output: &mut W, errors: &mut E) -> u8
     ensures { result ≤ 2 }
 {
     let mut input = [0u8; INPUT];
     let mut out = [0u8; INPUT * request::SIZE];
-    let mut errors = [0u8; INPUT * assembly::MESSAGE];
+    let mut said = [0u8; INPUT * assembly::MESSAGE];
     let mut kept: usize = 0;
     let mut number: u64 = 1;
     let mut status = DONE;
     // A proved loop ends: this one ends with the input, or after more reads than any input takes.
     for _ in 0..u64::MAX {
-        let got = program::read(&mut input[kept..], b"assemble: standard input");
+        let got = program::read(
+            reader,
+            errors,
+            &mut input[kept..],
+            b"assemble: standard input",
+        );
         if got.failed {
             return FAILED;
         }
-        let turn = assembly::assemble(&mut input, kept, got.count, number, &mut out, &mut errors);
+        let turn = assembly::assemble(&mut input, kept, got.count, number, &mut out, &mut said);
         let requests = turn.requests;
         let messages = turn.messages;
-        status = answer(status, &out[0..requests], &errors[0..messages]);
+        status = answer(
+            output,
+            errors,
+            status,
+            &out[0..requests],
+            &said[0..messages],
+        );
         if status == FAILED {
             return status;
         }
@@ -60,21 +82,26 @@ fn assemble_input() -> u8
     status
 }
 
-fn main() {
+fn main(rt: HostRuntime) -> ExitCode {
+    let mut reader = rt.stdin();
+    let mut output = rt.stdout();
+    let mut errors = rt.stderr();
     let mut first = [0u8; 16];
     let mut second = [0u8; 16];
-    let first_len = os::arg(1, &mut first);
-    let second_len = os::arg(2, &mut second);
+    let first_len = arguments::word(&rt, 1, &mut first);
+    let second_len = arguments::word(&rt, 2, &mut second);
     let asked = arguments::read(
-        os::arg_count(),
+        arguments::count(&rt),
         &first[0..first_len],
         &second[0..second_len],
     );
     let choice = asked.choice;
     let status = match choice {
-        Choice::Run => assemble_input(),
+        Choice::Run => assemble_input(&mut reader, &mut output, &mut errors),
         Choice::Help => {
             let shown = program::print(
+                &mut output,
+                &mut errors,
                 b"usage: assemble < LINES > REQUESTS, assemble --help or assemble --version\n\
                 \n\
                 Turns lines of text into requests of 16 bytes, as benchrun reads them.\n\
@@ -91,13 +118,18 @@ fn main() {
             if shown { DONE } else { FAILED }
         }
         Choice::Version => {
-            let shown = program::print(b"assemble 0.1.0\n", b"assemble: standard output");
+            let shown = program::print(
+                &mut output,
+                &mut errors,
+                b"assemble 0.1.0\n",
+                b"assemble: standard output",
+            );
             if shown { DONE } else { FAILED }
         }
         Choice::Unknown(word) => {
-            program::refuse(b"assemble", word);
+            program::refuse(&rt, &mut errors, b"assemble", word);
             FAILED
         }
     };
-    program::finish(asked.launched, status);
+    program::finish(asked.launched, status)
 }

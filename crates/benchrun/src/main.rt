@@ -1,5 +1,7 @@
 // Replays requests from standard input on a heap with regions of 4,096 bytes, opened with z = 1, w = 1 and four zero
 // bytes as the pattern, and prints a line for each.
+#![tactic(auto)]
+
 ghost use Rattle.std.specs.Prelude.{◌≡◌, ◌⊎◌, Bool, false, List, ℕ, ◌+◌, ◌<◌, ◌≤◌, eqb, length, take};
 ghost use Rattle.writing.specs.Overwrite.{overwrite};
 ghost use Rattle.request.specs.Parse.{request_size};
@@ -11,6 +13,8 @@ ghost use Rattle.benchrun.specs.Replay.{heap_bytes, metadata_bytes, given, first
 
 use program::arguments::Choice;
 use program::{DONE, FAILED, Got, arguments};
+use std::io::{Read, Write};
+use std::process::ExitCode;
 
 // The bytes of the heap and of its metadata.
 const HEAP: usize = 49152;
@@ -20,12 +24,15 @@ const METADATA: usize = 190;
 // How many bytes of the input are held at a time.
 const INPUT: usize = 16384;
 
+// How many bytes of lines are held at a time.
+const OUTPUT: usize = 65536;
+
 // More reads than any input takes.
 const READS: u64 = 1 << 53;
 
 // How far a run is: how many bytes of lines are to be written and of the input are kept, the number of the next line,
 // and whether the input has ended.
-#[derive(Drop)]
+#[derive(Clone, Copy)]
 struct Turn {
     written: usize,
     kept: usize,
@@ -88,28 +95,38 @@ fn serve(
 }
 
 // Reads behind the bytes that were kept, and leaves these as they are.
-fn read_behind(input: &mut [u8], kept: usize) -> Got
+fn read_behind<R: Read, E: Write>(
+    reader: &mut R,
+    errors: &mut E,
+    input: &mut [u8],
+    kept: usize,
+) -> Got
     requires { kept ≤ length input.old }
     ensures count_in_bounds { kept + result.count ≤ length input.new }
     ensures input_unchanged { take kept input.new ≡ take kept input.old }
 {
-    program::read(&mut input[kept..], b"benchrun: standard input")
+    program::read(
+        reader,
+        errors,
+        &mut input[kept..],
+        b"benchrun: standard input",
+    )
 }
 
-// Serves standard input to its end, and answers the status: which it is, the system decides.
-fn serve_input() -> u8
+// Serves the input to its end, and answers the status: which it is, the system decides.
+fn serve_input<R: Read, W: Write, E: Write>(reader: &mut R, output: &mut W, errors: &mut E) -> u8
     ensures { (result ≡ 0) ⊎ (result ≡ 2) }
 {
     let mut heap = [0u8; HEAP];
     let mut metadata = [0u8; METADATA];
     open(&mut heap, &mut metadata);
     let mut input = [0u8; INPUT];
-    let mut out = io::large_buffer();
+    let mut out = [0u8; OUTPUT];
     let mut turn = start();
     // A proved loop ends: this one ends with the input, or after more reads than any input takes.
     for _ in 0..READS {
         let kept = turn.kept;
-        let got = read_behind(&mut input, kept);
+        let got = read_behind(reader, errors, &mut input, kept);
         if got.failed {
             return FAILED;
         }
@@ -123,7 +140,12 @@ fn serve_input() -> u8
             &mut out,
         );
         let written = turn.written;
-        if !program::print(&out[0..written], b"benchrun: standard output") {
+        if !program::print(
+            output,
+            errors,
+            &out[0..written],
+            b"benchrun: standard output",
+        ) {
             return FAILED;
         }
         if turn.ended {
@@ -133,21 +155,26 @@ fn serve_input() -> u8
     DONE
 }
 
-fn main() {
+fn main(rt: HostRuntime) -> ExitCode {
+    let mut reader = rt.stdin();
+    let mut output = rt.stdout();
+    let mut errors = rt.stderr();
     let mut first = [0u8; 16];
     let mut second = [0u8; 16];
-    let first_len = os::arg(1, &mut first);
-    let second_len = os::arg(2, &mut second);
+    let first_len = arguments::word(&rt, 1, &mut first);
+    let second_len = arguments::word(&rt, 2, &mut second);
     let asked = arguments::read(
-        os::arg_count(),
+        arguments::count(&rt),
         &first[0..first_len],
         &second[0..second_len],
     );
     let choice = asked.choice;
     let status = match choice {
-        Choice::Run => serve_input(),
+        Choice::Run => serve_input(&mut reader, &mut output, &mut errors),
         Choice::Help => {
             let shown = program::print(
+                &mut output,
+                &mut errors,
                 b"usage: benchrun < REQUESTS, benchrun --help or benchrun --version\n\
                 \n\
                 Serves requests on a heap of 49152 bytes that was opened with z = 1, w = 1 and four zero bytes as\n\
@@ -165,13 +192,18 @@ fn main() {
             if shown { DONE } else { FAILED }
         }
         Choice::Version => {
-            let shown = program::print(b"benchrun 0.1.0\n", b"benchrun: standard output");
+            let shown = program::print(
+                &mut output,
+                &mut errors,
+                b"benchrun 0.1.0\n",
+                b"benchrun: standard output",
+            );
             if shown { DONE } else { FAILED }
         }
         Choice::Unknown(word) => {
-            program::refuse(b"benchrun", word);
+            program::refuse(&rt, &mut errors, b"benchrun", word);
             FAILED
         }
     };
-    program::finish(asked.launched, status);
+    program::finish(asked.launched, status)
 }

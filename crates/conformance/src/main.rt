@@ -8,6 +8,8 @@
 // counts as 98,304, a source's above 65,536 as 65,536, and a number of requests above 1,024 as 1,024. What is not
 // written stays as the case before left it: bytes in no slot, where an opening is refused the whole heap and the
 // metadata, and bytes of an output that its vote does not write. A header that is cut short ends the run.
+#![tactic(auto)]
+
 ghost use Rattle.std.specs.Prelude.{◌≡◌, ◌+◌, ◌*◌, ◌<◌, ◌≤◌, min, length, drop};
 ghost use Rattle.answer.specs.Reply.{Reply};
 ghost use Rattle.words.specs.Word.{word_at};
@@ -24,8 +26,8 @@ ghost use Rattle.conformance.specs.Digest.{digest};
 
 use answer::Refusal;
 use geometry::Plan;
-use libc::{STDIN_FILENO, STDOUT_FILENO};
 use numbers::{least, wide};
+use std::io::{Read, Write};
 use vote::{LONGEST_BLOCK, Verdict};
 use whole::Consensus;
 
@@ -44,8 +46,11 @@ const WHOLE: usize = 5 * LONGEST_BLOCK;
 // The bytes of a header.
 const HEADER: usize = 32;
 
+// How many bytes of lines are held at a time.
+const OUTPUT: usize = 65536;
+
 // The lengths of a case's heap, metadata, source and requests, its seeds, its pattern, the canary, and its votes.
-#[derive(Drop)]
+#[derive(Clone, Copy)]
 struct Case {
     heap: usize,
     metadata: usize,
@@ -59,7 +64,7 @@ struct Case {
 }
 
 // What a case came to: the opening's answer in numbers, and how many bytes its requests' lines have.
-#[derive(Drop)]
+#[derive(Clone, Copy)]
 struct Ran {
     number: u32,
     value: u32,
@@ -95,6 +100,7 @@ fn case_of(header: &[u8]) -> Case
 }
 
 // A number that every byte moves: two heaps that differ in one byte have different ones.
+#[tactic(auto, unfolding(crate::specs::Digest::digest))]
 fn digest(bytes: &[u8]) -> u64
     ensures { result ≡ digest 0 bytes.now }
 {
@@ -137,20 +143,22 @@ fn run(
 }
 
 // Prints a line: a word, and numbers.
-fn print_line(word: &[u8], numbers: &[u64]) {
-    io::write_all(STDOUT_FILENO, word);
+fn print_line<W: Write>(lines: &mut W, word: &[u8], numbers: &[u64]) {
+    let _ = lines.write_all(word);
     let mut i: usize = 0;
     while i < numbers.len() {
-        io::write_all(STDOUT_FILENO, b" ");
-        io::print_decimal(STDOUT_FILENO, numbers[i]);
+        let number = numbers[i];
+        let _ = write!(lines, " {number}");
         i += 1;
     }
-    io::write_all(STDOUT_FILENO, b"\n");
+    let _ = lines.write_all(b"\n");
 }
 
 // Runs a case, and prints a line for its opening, those of its requests and one for its heap. Answers false where those
 // of its requests could not be written.
-fn print_run(
+fn print_run<W: Write, E: Write>(
+    lines: &mut W,
+    errors: &mut E,
     heap: &mut [u8],
     metadata: &mut [u8],
     case: Case,
@@ -165,18 +173,32 @@ fn print_run(
         × (out.new ≡ overwrite out.old 0 b.text) }
 {
     let ran = run(heap, metadata, case, source, requests, out);
-    print_line(b"open", &[ran.number as u64, ran.value as u64]);
+    print_line(lines, b"open", &[ran.number as u64, ran.value as u64]);
     let written = ran.written;
-    if !program::print(&out[0..written], b"conformance: standard output") {
+    if !program::print(
+        lines,
+        errors,
+        &out[0..written],
+        b"conformance: standard output",
+    ) {
         return false;
     }
-    print_line(b"heap", &[digest(heap)]);
+    print_line(lines, b"heap", &[digest(heap)]);
     true
 }
 
 // Prints the line of a vote: its answer in numbers, and a digest of its output.
-fn print_tally(word: &[u8], number: u32, mask: u32, value: u32, replica: u32, output: &[u8]) {
+fn print_tally<W: Write>(
+    lines: &mut W,
+    word: &[u8],
+    number: u32,
+    mask: u32,
+    value: u32,
+    replica: u32,
+    output: &[u8],
+) {
     print_line(
+        lines,
         word,
         &[
             number as u64,
@@ -189,7 +211,13 @@ fn print_tally(word: &[u8], number: u32, mask: u32, value: u32, replica: u32, ou
 }
 
 // Has replicas vote, and prints the line of their answer.
-fn print_vote(blocks: &[u8], replicas: usize, block_len: usize, output: &mut [u8])
+fn print_vote<W: Write>(
+    lines: &mut W,
+    blocks: &[u8],
+    replicas: usize,
+    block_len: usize,
+    output: &mut [u8],
+)
     ensures { let d = decide blocks.now replicas block_len (length output.old) in
         output.new ≡ output_after d output.old }
 {
@@ -198,13 +226,19 @@ fn print_vote(blocks: &[u8], replicas: usize, block_len: usize, output: &mut [u8
             mask,
             count,
             replica,
-        } => print_tally(b"vote", 0, mask, count, replica, output),
-        Verdict::Refused(refusal) => print_tally(b"vote", refusal.number(), 0, 0, 0, output),
+        } => print_tally(lines, b"vote", 0, mask, count, replica, output),
+        Verdict::Refused(refusal) => print_tally(lines, b"vote", refusal.number(), 0, 0, 0, output),
     }
 }
 
 // Has replicas vote on whole outputs, and prints the line of their answer.
-fn print_whole(outputs: &[u8], replicas: usize, len: usize, output: &mut [u8])
+fn print_whole<W: Write>(
+    lines: &mut W,
+    outputs: &[u8],
+    replicas: usize,
+    len: usize,
+    output: &mut [u8],
+)
     ensures { let voted = whole outputs.now replicas len output.old in
         output.new ≡ voted.output }
 {
@@ -213,23 +247,56 @@ fn print_whole(outputs: &[u8], replicas: usize, len: usize, output: &mut [u8])
             mask,
             count,
             replica,
-        } => print_tally(b"whole", 0, mask, count, replica, output),
+        } => print_tally(lines, b"whole", 0, mask, count, replica, output),
         Consensus::Split { block } => {
-            print_tally(b"whole", Refusal::NoAgreement.number(), 0, block, 0, output)
+            print_tally(
+                lines,
+                b"whole",
+                Refusal::NoAgreement.number(),
+                0,
+                block,
+                0,
+                output,
+            )
         }
-        Consensus::Refused(refusal) => print_tally(b"whole", refusal.number(), 0, 0, 0, output),
+        Consensus::Refused(refusal) => print_tally(
+            lines,
+            b"whole",
+            refusal.number(),
+            0,
+            0,
+            0,
+            output,
+        ),
     }
 }
 
+// Reads until the slice is full, the input ends or a read fails, and answers how many bytes came.
+fn read_full<R: Read>(reader: &mut R, into: &mut [u8]) -> usize
+    ensures { result ≤ length into.new }
+{
+    let mut done: usize = 0;
+    while done < into.len() {
+        match reader.read(&mut into[done..]) {
+            Ok(count) if count > 0 => done += count,
+            _ => return done,
+        }
+    }
+    done
+}
+
 // Reads bytes to the front of a slice, as many as there are up to a number, and answers how many.
-fn read_front(into: &mut [u8], most: usize) -> usize
+fn read_front<R: Read>(reader: &mut R, into: &mut [u8], most: usize) -> usize
     requires { most ≤ length into.old }
     ensures { (result ≤ most) × (drop most into.new ≡ drop most into.old) }
 {
-    io::read_full(STDIN_FILENO, &mut into[0..most])
+    read_full(reader, &mut into[0..most])
 }
 
-fn main() {
+fn main(rt: HostRuntime) {
+    let mut reader = rt.stdin();
+    let mut lines = rt.stdout();
+    let mut errors = rt.stderr();
     let mut heap = [0u8; HEAP];
     let mut metadata = [0u8; METADATA];
     let mut header = [0u8; HEADER];
@@ -237,20 +304,22 @@ fn main() {
     let mut requests = [0u8; request::SIZE * REQUESTS];
     let mut agreed = [0u8; LONGEST_BLOCK];
     let mut whole = [0u8; WHOLE];
-    let mut out = io::large_buffer();
+    let mut out = [0u8; OUTPUT];
     let mut cases: u32 = 0;
     // A proved loop ends: this one ends with the input, or after more cases than any input has.
     while cases < u32::MAX {
-        if io::read_full(STDIN_FILENO, &mut header) < HEADER {
+        if read_full(&mut reader, &mut header) < HEADER {
             return;
         }
         let case = case_of(&header);
         let heap_len = case.heap;
         let metadata_len = case.metadata;
-        let lent_len = read_front(&mut source, case.source);
+        let lent_len = read_front(&mut reader, &mut source, case.source);
         let lent = &source[0..lent_len];
-        let got = read_front(&mut requests, case.requests);
+        let got = read_front(&mut reader, &mut requests, case.requests);
         if !print_run(
+            &mut lines,
+            &mut errors,
             &mut heap[0..heap_len],
             &mut metadata[0..metadata_len],
             case,
@@ -260,8 +329,8 @@ fn main() {
         ) {
             return;
         }
-        print_vote(lent, case.replicas, case.block, &mut agreed);
-        print_whole(lent, case.replicas, case.block, &mut whole);
+        print_vote(&mut lines, lent, case.replicas, case.block, &mut agreed);
+        print_whole(&mut lines, lent, case.replicas, case.block, &mut whole);
         cases += 1;
     }
 }

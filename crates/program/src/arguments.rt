@@ -1,10 +1,12 @@
 // What a program's arguments ask for: its work, its help text or its version, or nothing that it knows; and whether the
 // launcher of programs/launch.c wants its status.
-ghost use Rattle.std.specs.Prelude.{◌≡◌, ◌<◌};
+ghost use Rattle.std.specs.Prelude.{◌≡◌, ◌<◌, ◌≤◌, length};
 ghost use Rattle.program.specs.Asked.{alone_of, choice_of, asked_of};
 
+use std::env::{Env, FillError};
+
 // Unknown is the word with this number.
-#[derive(Drop)]
+#[derive(Clone, Copy)]
 pub enum Choice {
     Run,
     Help,
@@ -12,13 +14,14 @@ pub enum Choice {
     Unknown(usize),
 }
 
-#[derive(Drop)]
+#[derive(Clone, Copy)]
 pub struct Asked {
     pub launched: bool,
     pub choice: Choice,
 }
 
 // What word `own` asks for, which must be the last one.
+#[tactic(auto, unfolding(crate::specs::Asked::alone_of))]
 fn alone(count: usize, own: usize, choice: Choice) -> Choice
     requires { own < count }
     ensures { result ≡ alone_of count own choice }
@@ -30,6 +33,7 @@ fn alone(count: usize, own: usize, choice: Choice) -> Choice
 }
 
 // `count` words, of which those from `own` on are the user's.
+#[tactic(auto, unfolding(crate::specs::Asked::choice_of, alike::specs::Text::bytes))]
 fn chosen(count: usize, own: usize, argument: &[u8]) -> Choice
     ensures { result ≡ choice_of count own argument.now }
 {
@@ -46,6 +50,7 @@ fn chosen(count: usize, own: usize, argument: &[u8]) -> Choice
 }
 
 // `count` words, the program's name first, and the two after it, each empty where there is none.
+#[tactic(auto, unfolding(crate::specs::Asked::asked_of, alike::specs::Text::bytes))]
 pub fn read(count: usize, first: &[u8], second: &[u8]) -> Asked
     ensures { result ≡ asked_of count first.now second.now }
 {
@@ -60,5 +65,27 @@ pub fn read(count: usize, first: &[u8], second: &[u8]) -> Asked
     Asked {
         launched: false,
         choice,
+    }
+}
+
+// How many words there are, the program's name among them.
+pub fn count<R: Env>(rt: &R) -> usize {
+    let mut nothing = [0u8; 0];
+    for word in 0..usize::MAX {
+        match rt.arg(word, &mut nothing) {
+            Err(FillError::NotPresent) => return word,
+            _ => {}
+        }
+    }
+    usize::MAX
+}
+
+// Reads a word, and answers how many bytes it has: none where there is no such word, or it is longer than the buffer.
+pub fn word<R: Env>(rt: &R, word: usize, into: &mut [u8]) -> usize
+    ensures { result ≤ length into.new }
+{
+    match rt.arg(word, into) {
+        Ok(len) => len,
+        Err(_) => 0,
     }
 }

@@ -1,3 +1,0 @@
--- Laws of what arguments ask for.
-pub mod Choosing
-pub mod Reading
