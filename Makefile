@@ -17,20 +17,22 @@ FUZZ_COVERAGE = -Cpasses=sancov-module -Cllvm-args=-sanitizer-coverage-level=4 -
 	-Cllvm-args=-sanitizer-coverage-pc-table
 SOAK_CALLS ?= 100000000
 
+# What the library and the programs are made of, and their proofs. Folders are listed with their files, so that a file taken away is a change.
+library_sources := crates.txt $(shell find crates -path 'crates/*/src*' -o -path 'crates/*/specs*' -o -path 'crates/*/proofs*')
+
 run: programs
 	@bash -o pipefail -c 'target/assemble < examples/eight.txt | target/benchrun'
 
-programs: target/assemble target/benchrun
-	@programs/prove check assemble benchrun
+programs: target/assemble target/benchrun target/bin/assemble target/bin/benchrun
+
+target/bin/assemble target/bin/benchrun &: $(library_sources)
+	@programs/prove programs assemble benchrun
 
 target/assemble target/benchrun: programs/launch.c
 	@mkdir -p target && gcc -std=c11 -Wall -Wextra -Werror -O2 $< -o $@
 
 test:
 	.ci/run
-
-# What the library is made of, and its proofs. Folders are listed with their files, so that a file taken away is a change.
-library_sources := crates.txt $(shell find crates -path 'crates/*/src*' -o -path 'crates/*/specs*' -o -path 'crates/*/proofs*')
 
 lib: target/libpoheldu.a
 
@@ -70,9 +72,8 @@ expected: cases
 table:
 	@mkdir -p target && programs/table > target/table.rt && cp target/table.rt crates/sizes/src/table.rt
 
-bench: lib
+bench: lib target/bin/benchrun
 	@programs/wanted cargo
-	@programs/prove check benchrun
 	@cd tests && cargo build --release --offline --quiet
 	@target/tests/release/bench target/bin/benchrun
 
