@@ -81,8 +81,8 @@ fn word_up_to(header: &[u8], at: usize, most: usize) -> usize
 // Reads a header. No heap that there is room for has more than 318 bytes of metadata, so its length is never cut.
 fn case_of(header: &[u8]) -> Case
     ensures value { result ≡ case_of header.now }
-    ensures heap_le_heap_room { (result.heap ≤ heap_room) × (result.metadata ≤ metadata_room) × (result.source ≤ source_room)
-        × (result.requests ≤ request_size * requests_room) }
+    ensures heap_le_heap_room { (result.heap ≤ heap_room) × (result.metadata ≤ metadata_room)
+        × (result.source ≤ source_room) × (result.requests ≤ request_size * requests_room) }
 {
     let heap = word_up_to(header, 0, HEAP);
     let requests = word_up_to(header, 20, REQUESTS);

@@ -81,7 +81,8 @@ pub fn read<R: Read, E: Write>(
 ) -> Got
     ensures in_bounds { (result.count ≤ length input.new) × (result.count ≡ cond result.failed 0 result.count) }
     ensures taken { Consumes (R.remaining reader.old) (R.remaining reader.new) (take result.count input.new) }
-    ensures at_end { result.failed ≡ false → result.count ≡ 0 → 0 < length input.new → IsAtEnd (R.remaining reader.new) }
+    ensures at_end { result.failed ≡ false → result.count ≡ 0 → 0 < length input.new
+        → IsAtEnd (R.remaining reader.new) }
 {
     let answer = reader.read(input);
     let got = told(&answer, input);

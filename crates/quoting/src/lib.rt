@@ -36,7 +36,8 @@ fn shown_byte(byte: u8) -> u8
 // The start of a word behind a quote.
 fn open(word: &[u8]) -> Shown
     ensures { let text = opened word.now in
-        (result.text ≡ overwrite (replicate quoted_room 0) 0 text) × (result.len ≡ length text) × (result.len ≤ 1 + shown_most) }
+        (result.text ≡ overwrite (replicate quoted_room 0) 0 text) × (result.len ≡ length text)
+        × (result.len ≤ 1 + shown_most) }
 {
     let count = least(SHOWN, word.len());
     let mut text = [0u8; ROOM];
@@ -52,7 +53,8 @@ fn open(word: &[u8]) -> Shown
 // The start of a word between quotes, with dots behind them where it is longer.
 pub fn quoted(word: &[u8]) -> Shown
     ensures fact { let text = quoted word.now in
-        (result.text ≡ overwrite (replicate quoted_room 0) 0 text) × (result.len ≡ length text) × (result.len ≤ quoted_room) }
+        (result.text ≡ overwrite (replicate quoted_room 0) 0 text) × (result.len ≡ length text)
+        × (result.len ≤ quoted_room) }
     ensures text_value { (take result.len result.text ≡ quoted word.now) × (length result.text ≡ quoted_room) }
 {
     let opened = open(word);

@@ -55,7 +55,8 @@ fn through(outputs: &[u8], replicas: usize, len: usize, output: &mut [u8]) -> Co
             return Consensus::Split { block };
         };
         at += p.len;
-        if at == len {
+        let ended = at == len;
+        if ended {
             return Consensus::Agreed {
                 mask,
                 count,
