@@ -6,6 +6,7 @@ ghost use Rattle.line.specs.Text.{is_blank, seek, next_word, word_bytes};
 use super::Word;
 use slices::between;
 
+#[tactic(auto, unfolding(crate::specs::Text::is_blank))]
 fn is_blank(byte: u8) -> bool
     ensures { result ≡ is_blank byte }
 {

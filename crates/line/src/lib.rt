@@ -131,6 +131,7 @@ fn statement(text: &[u8]) -> Line
 }
 
 // Where a line ends without the carriage return that may stand before its line feed.
+#[tactic(auto, unfolding(crate::specs::Text::trimmed_end))]
 fn trimmed_end(line: &[u8]) -> usize
     ensures { (result ≡ trimmed_end line.now) × (result ≤ length line.now) }
 {

@@ -27,6 +27,7 @@ fn put_text(text: &[u8], out: &mut [u8], at: usize) -> usize
 }
 
 // Writes the start of a word between quotes, or that the line has ended.
+#[tactic(auto, using(crate::proofs::Putting::found_none), unfolding(alike::specs::Text::bytes))]
 fn put_found(word: &[u8], out: &mut [u8], at: usize) -> usize
     requires { at + found_room ≤ length out.old }
     ensures upper_bound { result ≤ at + found_room }

@@ -21,6 +21,7 @@ pub struct Shown {
     pub len: usize,
 }
 
+#[tactic(auto, unfolding(crate::specs::Quoted::shown_byte))]
 fn shown_byte(byte: u8) -> u8
     ensures { result ≡ shown_byte byte }
 {

@@ -72,7 +72,8 @@ fn elected(outputs: &[u8], voting: u32, p: Places, output: &mut [u8]) -> Elected
         × (output.new ≡ output_after (count (row_of voting) block) output.old) }
 {
     let winner = elect::winner(compare::agreements(outputs, voting, p), p.replicas);
-    if winner.count < 2 {
+    let alone = winner.count < 2;
+    if alone {
         return winner;
     }
     writing::write(output, compare::block(outputs, p, winner.replica as usize));

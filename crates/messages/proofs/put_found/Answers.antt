@@ -2,15 +2,11 @@
 use native.Mathlib.Nat.{sub-zero}
 use native.Mathlib.Omega.{arith}
 use Rattle.line.specs.Text.{bytes}
-use Rattle.messages.proofs.Putting.{two_put, found_none, found_some}
+use Rattle.messages.proofs.Putting.{two_put, found_some}
 use Rattle.messages.proofs.put_found.Goals as goal
-
-pub returns-then-word-eq0-clause-put : goal.returns-then-word-eq0-clause-put
-unfolding bytes
-returns-then-word-eq0-clause-put c = rw (found_none c.args.word.now c.if-word-eq0.true) c.put_text.ensures
 
 pub returns-clause-put : goal.returns-clause-put
 unfolding bytes
 returns-clause-put c =
     let word = rw (sub-zero, c.quoted-shown.ensures.text_value.0) at c.put_text-end.ensures in
-    rw (found_some c.args.word.now c.if-word-eq0.false) (two_put word c.put_text-2.ensures (omega arith))
+    rw (found_some c.args.word.now (λ e. omega arith)) (two_put word c.put_text-2.ensures (omega arith))

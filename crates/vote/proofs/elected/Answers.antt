@@ -6,8 +6,8 @@ use Rattle.elect.specs.Leader.{row_of}
 use Rattle.vote.proofs.Decision.{counted, elected_wins, count_lost, count_won, count_put}
 use Rattle.vote.proofs.elected.Goals as goal
 
-pub returns-then-winner-lt2 : goal.returns-then-winner-lt2
-returns-then-winner-lt2 c =
+pub returns-then-alone : goal.returns-then-alone
+returns-then-alone c =
     let a = c.args in
     let voters = row_of a.voting in
     let block = block_in a.outputs.now a.p in
