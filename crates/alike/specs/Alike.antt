@@ -1,5 +1,5 @@
 -- Two lists of bytes compared.
-use Rattle.std.specs.Prelude.{ℕ, ◌-◌, Bool, true, false, ◌&&◌, List, [], ◌∷◌, eqb, take, drop}
+use Rattle.std.specs.Prelude.{ℕ, Bool, true, false, ◌&&◌, List, [], ◌∷◌, eqb}
 
 -- the same bytes
 unfoldable pub alike : List ℕ → List ℕ → Bool
@@ -7,7 +7,3 @@ alike [] [] = true
 alike [] (y ∷ ys) = false
 alike (x ∷ xs) [] = false
 alike (x ∷ xs) (y ∷ ys) = eqb x y && alike xs ys
-
--- the bytes between two places
-abbrev pub between : ℕ → ℕ → List ℕ → List ℕ
-between from to xs = take (to - from) (drop from xs)

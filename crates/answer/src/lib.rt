@@ -1,76 +1,56 @@
-// What a call answers: served with a value, or refused by name; and both in the numbers that callers see.
+// What a call answers: the value of what is served, or the refusal; and both in the numbers that callers see.
 #![tactic(auto)]
 
 ghost use Rattle.std.specs.Prelude.{◌≡◌};
 ghost use Rattle.answer.specs.Reply.{number_of, reply_of};
 
-#[derive(Clone, Copy)]
+// Each with its number.
+#[derive(Clone, Copy, Debug, PartialEq, Eq)]
 pub enum Refusal {
-    UnusableSeed,
-    HeapLength,
-    MetadataLength,
-    MalformedRequest,
-    UnsupportedSize,
-    ClassTooSmall,
-    ClassAtCapacity,
-    OutOfRange,
-    NotASlotStart,
-    NotAllocated,
-    InvalidVote,
-    NoAgreement,
-    CorruptMetadata,
-    ListTooShort,
-    InvalidOutputs,
+    UnusableSeed = 1,
+    HeapLength = 2,
+    MetadataLength = 3,
+    MalformedRequest = 4,
+    UnsupportedSize = 5,
+    ClassTooSmall = 6,
+    ClassAtCapacity = 7,
+    OutOfRange = 8,
+    NotASlotStart = 9,
+    NotAllocated = 10,
+    InvalidVote = 11,
+    NoAgreement = 12,
+    CorruptMetadata = 13,
+    ListTooShort = 14,
+    InvalidOutputs = 15,
 }
 
-#[derive(Clone, Copy)]
-pub enum Answer {
-    Served(u32),
-    Refused(Refusal),
+pub type Answer = Result<u32, Refusal>;
+
+// An answer in numbers: 0 and the value, or the refusal's number and 0.
+#[derive(Clone, Copy, Debug, PartialEq, Eq)]
+pub struct Reply {
+    pub number: u32,
+    pub value: u32,
 }
 
-impl Refusal {
-    pub fn number(self) -> u32
-        ensures { result ≡ number_of self }
-    {
-        match self {
-            Refusal::UnusableSeed => 1,
-            Refusal::HeapLength => 2,
-            Refusal::MetadataLength => 3,
-            Refusal::MalformedRequest => 4,
-            Refusal::UnsupportedSize => 5,
-            Refusal::ClassTooSmall => 6,
-            Refusal::ClassAtCapacity => 7,
-            Refusal::OutOfRange => 8,
-            Refusal::NotASlotStart => 9,
-            Refusal::NotAllocated => 10,
-            Refusal::InvalidVote => 11,
-            Refusal::NoAgreement => 12,
-            Refusal::CorruptMetadata => 13,
-            Refusal::ListTooShort => 14,
-            Refusal::InvalidOutputs => 15,
-        }
+impl From<Refusal> for u32 {
+    ghost from_gives = { λ refusal number. number ≡ number_of refusal };
+
+    fn from(refusal: Refusal) -> u32 {
+        refusal as u32
     }
 }
 
-impl Answer {
-    // 0 where it is served.
-    pub fn number(self) -> u32
-        ensures { result ≡ (reply_of self).number }
-    {
-        match self {
-            Answer::Served(_) => 0,
-            Answer::Refused(refusal) => refusal.number(),
-        }
-    }
+impl From<Answer> for Reply {
+    ghost from_gives = { λ answer reply. reply ≡ reply_of answer };
 
-    // 0 where it is refused.
-    pub fn value(self) -> u32
-        ensures { result ≡ (reply_of self).value }
-    {
-        match self {
-            Answer::Served(value) => value,
-            Answer::Refused(_) => 0,
+    fn from(answer: Answer) -> Reply {
+        match answer {
+            Ok(value) => Reply { number: 0, value },
+            Err(refusal) => Reply {
+                number: u32::from(refusal),
+                value: 0,
+            },
         }
     }
 }

@@ -8,13 +8,11 @@ use mathlib.Core.List.{List, [], ◌∷◌, ◌++◌, append_assoc, append-nil, 
 use lib.ListN.{length, take, length-append, length-take}
 use lib.Seq.{take_all}
 use lib.Dec.{eqb}
-use Rattle.line.specs.Line.{longest_line, read_line, request_of}
+use Rattle.line.specs.Line.{Read, longest_line, read_line, request_of}
 use Rattle.messages.specs.Message.{found_text, message_of}
 use Rattle.assembly.specs.Batch.{newline, lines_from, unended_from, lines, requests_of, messages_of}
 use Rattle.assembly.specs.Pieces.{longest_start, whole, lines_in}
-use Rattle.line.specs.declared.Line.{Line}
-use Rattle.line.specs.declared.Line.TheVariants.{TooLong}
-use Rattle.line.proofs.Reading.{long_line}
+use Rattle.line.proofs.Reading.{too_long, long_line}
 use Rattle.assembly.proofs.Splitting.{Splits, none, end, byte, splits, split_lines, split_rest}
 
 -- two texts, the second after the first
@@ -55,7 +53,7 @@ resumed : {line : List ℕ} → Open line → (text : List ℕ)
 resumed {line} o text = joined (begun o []) (splits text line)
 
 -- something that is told of each line by its bytes and how it is read; where it is too long, not by its bytes
-module _ {A : Type 0} (tell : List ℕ → Line → A) (blind : (a b : List ℕ) → tell a TooLong ≡ tell b TooLong) where
+module _ {A : Type 0} (tell : List ℕ → Read → A) (blind : (a b : List ℕ) → tell a too_long ≡ tell b too_long) where
   abbrev told : List ℕ → A
   told line = tell line (read_line line)
 

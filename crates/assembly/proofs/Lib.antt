@@ -1,9 +1,6 @@
 -- Laws of lines read from an input that comes in pieces, and the theorems that no cut changes what is read.
 pub mod Examples
-pub mod Room
 pub mod Splitting
-pub mod Requests
-pub mod Gathering
 pub mod Assembled
 pub mod Turning
 pub mod Turns

@@ -1,11 +1,13 @@
 -- A text split at its line ends.
 use Prim.Native.Nat.{ℕ, suc, ◌+◌, ◌-◌, ◌≤◌, ◌<◌}
 use native.Mathlib.Omega.{arith}
-use mathlib.Core.Path.{◌≡◌, refl}
+use mathlib.Core.Path.{◌≡◌, refl, sym, ap, ◌∙◌}
 use mathlib.Core.Bool.{Bool, true, false}
 use mathlib.Core.List.{List, [], ◌∷◌, ◌++◌, append_assoc, append-nil}
-use lib.ListN.{length, take, drop, length-drop}
-use lib.Seq.{take-length, drop-drop}
+use native.Mathlib.Nat.{sub-zero}
+use native.Mathlib.Numerals.{add-one}
+use lib.ListN.{length, take, drop, length-append, length-drop, length-take}
+use lib.Seq.{take-length, take_all, drop_at}
 use lib.Dec.{eqb}
 use Rattle.scan.specs.Bytes.{slice, index_of, index_after}
 use Rattle.assembly.specs.Batch.{newline, lines_from, unended_from, lines, unended}
@@ -70,20 +72,51 @@ first_end (b ∷ text) line = go (first_end text (line ++ (b ∷ []))) (eqb b ne
           last = λ h. rw (← append_assoc line (b ∷ []) text) (byte e (more.last (omega arith)));
         }
 
--- a line starts at a place, and the next line end or the end of the input is found
-module _ (input : List ℕ) (at end : ℕ) (found : end ≡ at + index_of newline (slice at (length input) input)) where
-  here : First [] (drop at input) (end - at)
+-- a text whose first line end is found, or found to be missing
+module _ (text : List ℕ) (end : ℕ) (found : end ≡ 0 + index_of newline (slice 0 (length text) text)) where
+  here : First [] text end
   here =
-      let e : end ≡ at + index_of newline (drop at input) = rw take-length at found in
-      let k : end - at ≡ index_of newline (drop at input) = omega arith in
-      rw k (first_end (drop at input) [])
+      let e : end ≡ index_of newline text = omega (arith, rw take-length at found) in
+      rw e (first_end text [])
 
-  pub line_found : at ≤ end → end < length input → let after = drop (end + 1) input in
-      Splits [] (drop at input) (take (end - at) (drop at input) ∷ lines after) (unended after)
-  line_found within h =
-      let k : at + suc (end - at) ≡ end + 1 = omega arith in
-      let after : drop (suc (end - at)) (drop at input) ≡ drop (end + 1) input = rw (drop-drop, k) in
-      rw after at (here.some (rw length-drop (omega arith)))
+  -- the line, and what comes after its end
+  abbrev pub line : List ℕ
+  line = take (end - 0) text
 
-  pub no_line : length input ≤ end → Splits [] (drop at input) [] (drop at input)
-  no_line h = here.last (rw length-drop (omega arith))
+  abbrev pub after : List ℕ
+  after = take (length text - (end + 1)) (drop (end + 1) text)
+
+  pub line_found : end < length text → (lines text ≡ line ∷ lines after) × (unended text ≡ unended after)
+      × (length text ≡ length line + (1 + length after))
+  line_found h =
+      let all : length (drop (end + 1) text) ≤ length text - (end + 1) = rw length-drop (omega arith) in
+      let rest : after ≡ drop (end + 1) text = take_all (length text - (end + 1)) (drop (end + 1) text) all in
+      let s : Splits [] text (line ∷ lines after) (unended after) = rw (rest, sub-zero, add-one) (here.some h) in
+      (split_lines s, split_rest s, rw rest (simp (length-take, length-drop) (omega arith)))
+
+  pub no_line : length text ≤ end → (lines text ≡ []) × (unended text ≡ text)
+  no_line h = (split_lines (here.last h), split_rest (here.last h))
+
+-- what is left of a text is its end
+left_at_end : {line text left : List ℕ} {ls : List (List ℕ)} → Splits line text ls left
+    → (front : List ℕ) × (line ++ text ≡ front ++ left)
+left_at_end {line} none = ([], append-nil line)
+left_at_end {line} {left = left} (end {b = b} e s) =
+    let (front, q) = left_at_end s in
+    (line ++ (b ∷ front), ap (λ (xs : List ℕ). line ++ (b ∷ xs)) q ∙ sym (append_assoc line (b ∷ front) left))
+left_at_end {line} (byte {text = text} {b = b} e s) =
+    let (front, q) = left_at_end s in
+    (front, sym (append_assoc line (b ∷ []) text) ∙ q)
+
+module _ (text : List ℕ) where
+  part : (front left : List ℕ) → text ≡ front ++ left
+      → (length left ≤ length text) × (drop (length text - length left) text ≡ left)
+  part front left q =
+      let size : length text ≡ length front + length left = rw (q, length-append) in
+      let place : length text - length left ≡ length front = omega arith in
+      (omega arith, rw (place, q) (drop_at front left (length front) refl))
+
+  pub unended_part : (length (unended text) ≤ length text) × (drop (length text - length (unended text)) text ≡ unended text)
+  unended_part =
+      let (front, q) = left_at_end (splits text []) in
+      part front (unended text) q

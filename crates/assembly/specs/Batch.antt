@@ -1,9 +1,10 @@
 -- The lines of a text, and what they come to one after another.
-use Rattle.std.specs.Prelude.{ℕ, ◌+◌, ◌-◌, ◌*◌, ◌^◌, Bool, true, false, ◌&&◌, cond, List, [], ◌∷◌, ◌++◌, length, leb, ltb, eqb}
+use Rattle.std.specs.Prelude.{ℕ, ◌+◌, ◌*◌, ◌^◌, Bool, true, false, ◌&&◌, cond}
+use Rattle.std.specs.Prelude.{List, [], ◌∷◌, ◌++◌, length, leb, ltb, eqb}
 use Rattle.request.specs.Parse.{request_size}
 use Rattle.line.specs.Line.{read_line, request_of}
 use Rattle.messages.specs.Message.{message_of, message_room}
-use Rattle.assembly.specs.declared.Done.{Done}
+use Rattle.assembly.specs.declared.Turn.{Turn}
 
 abbrev pub newline : ℕ
 newline = 10
@@ -25,10 +26,6 @@ lines text = lines_from [] text
 abbrev pub unended : List ℕ → List ℕ
 unended text = unended_from [] text
 
--- how many bytes the lines have that have their end
-abbrev pub used : List ℕ → ℕ
-used text = length text - length (unended text)
-
 -- the requests that lines ask for
 unfoldable pub requests_of : List (List ℕ) → List ℕ
 requests_of [] = []
@@ -46,11 +43,11 @@ requests_in text = requests_of (lines text)
 abbrev pub messages_in : ℕ → List ℕ → List ℕ
 messages_in number text = messages_of number (lines text)
 
--- how much of a text is read and written, and the number of the line after it
-unfoldable pub done_of : ℕ → List ℕ → Done
-done_of number text =
+-- how much of a text is left and written, and the number of the line after it
+unfoldable pub turn_of : ℕ → List ℕ → Turn
+turn_of number text =
     record {
-      used = used text;
+      kept = length (unended text);
       next = number + length (lines text);
       requests = length (requests_in text);
       messages = length (messages_in number text);

@@ -1,9 +1,8 @@
 -- One read of an input, and what it comes to.
 use Rattle.std.specs.Prelude.{ℕ, ◌+◌, min, cond, List, length, take, set, eqb}
 use Rattle.writing.specs.Overwrite.{overwrite}
-use Rattle.assembly.specs.Batch.{newline, requests_in, messages_in, done_of, admitted}
+use Rattle.assembly.specs.Batch.{newline, requests_in, messages_in, turn_of, admitted}
 use Rattle.assembly.specs.Pieces.{start_of}
-use Rattle.assembly.specs.declared.Done.{Done}
 use Rattle.assembly.specs.declared.Turn.{Turn}
 
 -- a buffer of which `kept` bytes were there before and the `got` bytes after them were read; where none were, the line
@@ -30,7 +29,7 @@ pub record Taken : Type 0 where
 unfoldable pub assemble : List ℕ → ℕ → ℕ → ℕ → List ℕ → List ℕ → Taken
 assemble input kept got number out errors =
     let text : List ℕ = admitted (text_in input kept got) number (length out) (length errors) in
-    let done : Done = done_of number text in
+    let done : Turn = turn_of number text in
     let start : List ℕ = start_of text in
     record {
       turn = record { kept = length start; next = done.next; requests = done.requests; messages = done.messages };

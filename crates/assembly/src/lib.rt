@@ -1,17 +1,16 @@
 // All lines of an input, one after another, to requests and to messages about bad lines.
 #![tactic(auto)]
 
-ghost use Rattle.std.specs.Prelude.{◌≡◌, true, cond, ◌+◌, ◌≤◌, length, drop};
+ghost use Rattle.std.specs.Prelude.{◌≡◌, true, cond, [], ◌∷◌, ◌+◌, ◌≤◌, length, MatchOption};
 ghost use Rattle.writing.specs.Overwrite.{overwrite};
 ghost use Rattle.request.specs.Parse.{request_size};
 ghost use Rattle.line.specs.Line.{request_of};
 ghost use Rattle.messages.specs.Put.{Put};
-ghost use Rattle.assembly.specs.Batch.{unended, requests_in, messages_in, done_of, fits};
+ghost use Rattle.assembly.specs.Batch.{lines, unended, requests_in, messages_in, turn_of, fits};
 ghost use Rattle.assembly.specs.Pieces.{longest_start};
 ghost use Rattle.assembly.specs.Turn.{gathered, text_end, assemble};
 
-use line::Line;
-use numbers::least;
+use line::Read;
 
 // Room for any message.
 pub const MESSAGE: usize = messages::ROOM;
@@ -20,16 +19,6 @@ pub const MESSAGE: usize = messages::ROOM;
 const START: usize = line::LONGEST + 2;
 
 const NEWLINE: u8 = b'\n';
-
-// How much of an input is read, the number of the line after it, and how many bytes of requests and of messages are
-// written.
-#[derive(Clone, Copy)]
-struct Done {
-    used: usize,
-    next: u64,
-    requests: usize,
-    messages: usize,
-}
 
 // How many bytes are kept of a line whose end is not read yet, the number of that line, and how many bytes of requests
 // and of messages are written.
@@ -45,64 +34,67 @@ pub struct Turn {
 fn admitted_len(len: usize, number: u64, out: usize, errors: usize) -> usize
     ensures { (result ≡ cond (fits len number out errors) len 0) × (result ≤ len) }
 {
-    if out / request::SIZE < len {
-        return 0;
+    let room = len <= out / request::SIZE && len <= errors / MESSAGE;
+    if room && len as u64 <= u64::MAX - number {
+        len
+    } else {
+        0
     }
-    if errors / MESSAGE < len {
-        return 0;
-    }
-    if u64::MAX - number < len as u64 {
-        return 0;
-    }
-    len
 }
 
 // Writes the request that a line asks for, if any, and answers the place after it.
-fn put_request(line: Line, out: &mut [u8], at: usize) -> usize
+#[tactic(auto, unfolding(line::specs::Line::request_of))]
+fn put_request(read: Read, out: &mut [u8], at: usize) -> usize
     requires { at + request_size ≤ length out.old }
-    ensures upper_bound { result ≤ at + request_size }
-    ensures put { Put out.old at (request_of line) result out.new }
+    ensures within { result ≤ at + request_size }
+    ensures put { Put out.old at (request_of read) result out.new }
 {
-    let Line::Request {
-        operation,
-        argument,
-        count,
-    } = line
-    else {
+    let Ok(Some(asked)) = read else {
         return at;
     };
-    let bytes = request::encode(operation, argument, count);
+    let bytes = request::encode(asked.operation, asked.argument, asked.count);
     let end = at + request::SIZE;
     out[at..end].copy_from_slice(&bytes);
     end
 }
 
+// The first line of a text without its end, and what comes after it; nothing where it has no end.
+fn first_line(text: &[u8]) -> Option<(&[u8], &[u8])>
+    ensures { MatchOption result
+        ((lines text.now ≡ []) × (unended text.now ≡ text.now))
+        (λ p. (lines text.now ≡ p.0.now ∷ lines p.1.now) × (unended text.now ≡ unended p.1.now)
+        × (length text.now ≡ length p.0.now + (1 + length p.1.now))) }
+{
+    let end = scan::find(text, 0, text.len(), NEWLINE);
+    if end == text.len() {
+        return None;
+    }
+    Some((&text[0..end], &text[end + 1..]))
+}
+
 // Reads every line of the input that has its end, writes the requests that they ask for at the front of the output, and
 // at the front of the errors what bad lines should have been. No line takes less than a byte, so there is room for all.
-fn assemble_lines(input: &[u8], number: u64, out: &mut [u8], errors: &mut [u8]) -> Done
+// What is left is kept.
+fn assemble_lines(input: &[u8], number: u64, out: &mut [u8], errors: &mut [u8]) -> Turn
     requires { fits (length input.now) number (length out.old) (length errors.old) ≡ true }
-    ensures value { (result ≡ done_of number input.now) × (result.used ≤ length input.now) }
-    ensures input_value { drop result.used input.now ≡ unended input.now }
-    ensures requests_in_bounds { (result.requests ≤ length out.new) × (result.messages ≤ length errors.new) }
+    ensures turn { (result ≡ turn_of number input.now) × (result.kept ≤ length input.now) }
+    ensures in_bounds { (result.requests ≤ length out.new) × (result.messages ≤ length errors.new) }
     ensures out_after { out.new ≡ overwrite out.old 0 (requests_in input.now) }
     ensures errors_after { errors.new ≡ overwrite errors.old 0 (messages_in number input.now) }
 {
-    let mut used: usize = 0;
+    let mut rest = input;
     let mut next = number;
     let mut requests: usize = 0;
     let mut messages: usize = 0;
-    let mut end = scan::find(input, 0, input.len(), NEWLINE);
-    while end < input.len() {
-        let text = &input[used..end];
-        let line = line::read(text);
-        requests = put_request(line, out, requests);
-        messages = messages::put(text, line, next, errors, messages);
+    while let Some((text, more)) = first_line(rest) {
+        let read = line::read(text);
+        requests = put_request(read, out, requests);
+        messages = messages::put(text, read, next, errors, messages);
         next += 1;
-        used = end + 1;
-        end = scan::find(input, used, input.len(), NEWLINE);
+        rest = more;
     }
-    Done {
-        used,
+    Turn {
+        kept: rest.len(),
         next,
         requests,
         messages,
@@ -111,8 +103,9 @@ fn assemble_lines(input: &[u8], number: u64, out: &mut [u8], errors: &mut [u8]) 
 
 // Where the text ends of which `kept` bytes were there before and `got` were read. Where none were, it gets the end
 // that its last line may lack.
+#[tactic(auto, unfolding(crate::specs::Turn::gathered, crate::specs::Turn::text_end))]
 fn gather(input: &mut [u8], kept: usize, got: usize) -> usize
-    ensures value { (result ≡ text_end (length input.old) kept got) × (result ≤ length input.new) }
+    ensures end { (result ≡ text_end (length input.old) kept got) × (result ≤ length input.new) }
     ensures input_after { input.new ≡ gathered input.old kept got }
 {
     let size = input.len();
@@ -123,12 +116,12 @@ fn gather(input: &mut [u8], kept: usize, got: usize) -> usize
         input[kept] = NEWLINE;
         return kept + 1;
     }
-    kept + least(got, size - kept)
+    kept + got.min(size - kept)
 }
 
 // Reads the lines of an input at the front of which `kept` bytes were kept by the turn before and behind them `got`
 // bytes read, 0 at its end, and writes their requests and messages. Where these may not fit, or the lines' numbers 64
-// bits, nothing is read, written or kept.
+// bits, nothing is read, written or kept. (`kept` comes from the turn before and `got` from a read: no one type.)
 pub fn assemble(
     input: &mut [u8],
     kept: usize,
@@ -137,25 +130,19 @@ pub fn assemble(
     out: &mut [u8],
     errors: &mut [u8],
 ) -> Turn
-    ensures errors_after { (record {
+    ensures turn { (record {
       turn = result;
       input = input.new;
       out = out.new;
       errors = errors.new;
     })
         ≡ assemble input.old kept got number out.old errors.old }
-    ensures kept_le_longest_start { (result.kept ≤ longest_start) × (result.requests ≤ length out.new) }
-    ensures messages_in_bounds { result.messages ≤ length errors.new }
+    ensures kept { result.kept ≤ longest_start }
+    ensures in_bounds { (result.requests ≤ length out.new) × (result.messages ≤ length errors.new) }
 {
     let end = gather(input, kept, got);
     let len = admitted_len(end, number, out.len(), errors.len());
-    let done = assemble_lines(&input[0..len], number, out, errors);
-    let count = least(START, len - done.used);
-    let left = writing::shift(input, done.used, count);
-    Turn {
-        kept: left,
-        next: done.next,
-        requests: done.requests,
-        messages: done.messages,
-    }
+    let turn = assemble_lines(&input[0..len], number, out, errors);
+    let left = writing::shift(input, len - turn.kept, START.min(turn.kept));
+    Turn { kept: left, ..turn }
 }

@@ -4,6 +4,7 @@ use mathlib.Core.Bool.{true, false, and-eq-true_iff}
 use mathlib.Core.List.{List}
 use Prim.Native.Nat.{ℕ, ◌/◌, ◌*◌, ◌%◌, ◌^◌, ◌<◌, ◌≤◌}
 use native.Mathlib.Nat.{zero-div}
+use native.Mathlib.Decide.{dec_lt}
 use native.Mathlib.Omega.{arith}
 use borrow.Author.Tests.{lt-ltb, le-ltb, ltb-true, eqb-true, eqb-false}
 use lib.Dec.{ltb, eqb}
@@ -42,6 +43,12 @@ module _ (b : List ℕ) (n i : ℕ) where
   pub put_past : (v : ℕ) → i < n → length b ≤ i / 8 → b ≡ put_byte b n i v
   unfolding put_byte
   put_past v h l = rw (lt-ltb i n, put_byte) (sym (set_out b (i / 8) v l))
+
+  pub put_out : (v : ℕ) → ((i < n) × (i / 8 < length b) → ⊥) → b ≡ put_byte b n i v
+  put_out v none = elim (dec_lt i n) [
+    | yes h ↦ elim (dec_lt (i / 8) (length b)) [ yes l ↦ absurd (none (h, l)) | no l ↦ put_past v h (omega arith) ]
+    | no h ↦ put_beyond v (omega arith)
+  ]
 
   -- what the code writes
   pub set_within : i < n → set b (i / 8) (bit_or (get_or b (i / 8) 0) (1 * 2 ^ (i % 8) % 256)) ≡ set_slot b n i

@@ -1,14 +1,17 @@
 -- The walk to the next clear slot.
-use mathlib.Core.Path.{◌≡◌, refl}
+use mathlib.Core.Path.{◌≡◌, refl, ◌∙◌}
+use mathlib.Core.Bool.{Bool}
 use mathlib.Core.List.{List}
-use Prim.Native.Nat.{ℕ, ◌+◌, ◌-◌, ◌<◌, ◌≤◌, zero-le}
+use Prim.Native.Nat.{ℕ, min, ◌+◌, ◌-◌, ◌^◌, ◌<◌, ◌≤◌, zero-le}
 use native.Mathlib.Nat.{sub-zero}
 use native.Mathlib.Numerals.{add-one}
-use native.Mathlib.Decide.{dec_lt}
+use native.Mathlib.Decide.{dec_le, dec_lt}
 use native.Mathlib.Omega.{arith}
 use borrow.Author.Tests.{lt-ltb, le-ltb, not-true, not-false}
+use Rattle.std.proofs.Common.{Option, Some, None}
+use Rattle.std.specs.Option.{SomeIff, unwrap_or}
 use Rattle.search.specs.First.{first}
-use Rattle.search.proofs.First.{first_passes, first_before}
+use Rattle.search.proofs.First.{first_range, first_passes, first_before}
 use Rattle.bitmap.specs.Bitmap.{bit, count_set, is_clear, next_clear}
 use Rattle.bitmap.proofs.Slot.{Clear, is_clear_lem, is_set_lem}
 use Rattle.bitmap.proofs.Counted.{count_full}
@@ -23,6 +26,30 @@ module _ (b : List ℕ) (n last above : ℕ) (found : above ≡ first (is_clear 
   pub next_around : n ≤ above → first (is_clear b n) 0 (n - 0) ≡ next_clear b n last
   unfolding next_clear
   next_around h = rw (← rw add-one at found, le-ltb above n, sub-zero)
+
+-- the same of the code, whose next number is no more than a machine's largest
+module _ (b : List ℕ) (n last : ℕ) {from : ℕ} (next : from ≡ min (last + 1) 18446744073709551615) (fits : n < 2 ^ 64) where
+  abbrev test : ℕ → Bool
+  test = is_clear b n
+
+  pub walk_above : {slot : ℕ} → (first test from (n - from) < n) × (slot ≡ first test from (n - from)) → slot ≡ next_clear b n last
+  walk_above {slot} (inside, is) =
+      let same : from ≡ last + 1 = omega (arith, first_range test from (n - from)) in
+      next_above b n last slot (rw same at is) (omega arith)
+
+  pub walk_around : (r : Option ℕ) → (first test from (n - from) < n → ⊥)
+      → SomeIff r (first test 0 (n - 0) < n) (first test 0 (n - 0)) → unwrap_or r n ≡ next_clear b n last
+  walk_around r none again = found r again ∙ next_around b n last (first test (last + 1) (n - (last + 1))) refl (elim (dec_le (last + 1) 18446744073709551615) [
+    | yes l ↦
+        let same : from ≡ last + 1 = omega arith in
+        let past = rw same at none in
+        omega (arith, past)
+    | no l ↦ omega (arith, first_range test (last + 1) (n - (last + 1)))
+  ])
+    where
+      found : (r : Option ℕ) → SomeIff r (first test 0 (n - 0) < n) (first test 0 (n - 0)) → unwrap_or r n ≡ first test 0 (n - 0)
+      found None past = omega (arith, past, first_range test 0 (n - 0))
+      found (Some i) (inside, is) = is
 
 module _ (b : List ℕ) (n last : ℕ) where
   abbrev above : ℕ

@@ -4,10 +4,9 @@ use mathlib.Core.Path.{◌≡◌, refl, sym, ap, ◌∙◌}
 use mathlib.Core.List.{List, [], ◌++◌, append-nil, append_assoc}
 use native.Mathlib.Nat.{zero-add, sub-zero, le_of_eq, add-sub_cancel_left, add-mod, mod-mod, mod-eq_of_lt}
 use native.Mathlib.Omega.{arith}
-use borrow.Author.Tests.{le-leb}
 use lib.ListN.{length, take, drop, get_or, length-append, length-take, length-drop, drop_of_length-le}
 use lib.Seq.{take_all, take_at, take-length, length-take-le, drop_at, drop-drop, drop-length, get_or-take, ext_get_or}
-use Rattle.words.specs.Word.{bytes_of, put_word}
+use Rattle.words.specs.Word.{bytes_of}
 use Rattle.writing.specs.Overwrite.{overwrite}
 use Rattle.search.specs.Tabulate.{tabulate}
 use Rattle.search.proofs.Tabulate.{tabulate_length, tabulate_add, tabulate_at, tabulate_moved}
@@ -69,25 +68,13 @@ cycled_text pattern at room e =
 
 -- ---- a loop's turn
 
--- four bytes stored as a word
-pub word_more : (canary : ℕ) (before : List ℕ) {now w : List ℕ} (at : ℕ) → at % 4 ≡ 0 → at + 4 ≤ length now
-    → Front (canary_byte canary) before now at → w ≡ put_word (take (at + 4 - at) (drop at now)) 0 canary
-    → Front (canary_byte canary) before (take at now ++ (w ++ drop (at + 4 - at) (drop at now))) (at + 4)
-word_more canary before {now} {w} at whole room e stored =
-    rw (add-sub_cancel_left at 4)
-    (front_more (canary_byte canary) before at 4 e (word ∙ cycled_text (bytes_of canary) at 4 whole))
-  where
-    part : List ℕ
-    part = take 4 (drop at now)
-
-    size : length part ≡ 4
-    size = length-take-le 4 (drop at now) (rw length-drop (omega arith))
-
-    rest : drop 4 part ≡ []
-    rest = rw size at (drop-length part)
-
-    word : w ≡ bytes_of canary
-    word = rw (add-sub_cancel_left at 4) at stored ∙ rw (le-leb 4 (length part) (le_of_eq (sym size)), rest)
+-- the four bytes of a canary written
+pub word_more : (canary : ℕ) (before : List ℕ) {now w : List ℕ} (at : ℕ) {next : ℕ} → next ≡ at + 4 → at % 4 ≡ 0
+    → Front (canary_byte canary) before now at → w ≡ bytes_of canary
+    → Front (canary_byte canary) before (take at now ++ (w ++ drop (at + 4 - at) (drop at now))) next
+word_more canary before at is whole e wrote =
+    rw (is, add-sub_cancel_left at 4)
+    (front_more (canary_byte canary) before at 4 e (wrote ∙ cycled_text (bytes_of canary) at 4 whole))
 
 -- as much of a pattern as there is room for
 module _ (pattern before now : List ℕ) {w : List ℕ} {r : ℕ} (at : ℕ) (kept : length now ≡ length before) (inside : at ≤ length now)

@@ -2,12 +2,10 @@
 #![tactic(auto)]
 
 ghost use Rattle.std.specs.Prelude.{◌≡◌, ◌+◌, ◌≤◌, length, take};
-ghost use Rattle.words.specs.Word.{bytes_of};
 ghost use Rattle.writing.specs.Overwrite.{overwrite};
 ghost use Rattle.canary.specs.Canary.{filled, first_damage, filled_heap};
 
 use geometry::{CLASSES, Layout};
-use numbers::{least, wide};
 use span::PATTERN;
 
 // The bytes of a canary.
@@ -19,25 +17,16 @@ const FRONT: usize = 1024;
 
 const COPY: usize = 4096;
 
-// A canary's four bytes, lowest first.
-fn bytes_of(canary: u32) -> [u8; SIZE]
-    ensures { result ≡ bytes_of canary }
-{
-    let mut four = [0u8; SIZE];
-    words::put(&mut four, 0, canary);
-    four
-}
-
-// Fills bytes by words.
+// Fills bytes by words. By places, since of bytes lent by `chunks_exact_mut` no contract says what they end as.
 fn fill_words(bytes: &mut [u8], canary: u32)
     ensures { bytes.new ≡ filled canary (length bytes.old) }
 {
-    let mut at: usize = 0;
-    while SIZE <= bytes.len() - at {
-        words::put(&mut bytes[at..at + SIZE], 0, canary);
-        at += SIZE;
+    let four = canary.to_le_bytes();
+    let words = bytes.len() / SIZE;
+    for word in 0..words {
+        bytes[SIZE * word..SIZE * word + SIZE].copy_from_slice(&four);
     }
-    writing::write(&mut bytes[at..], &bytes_of(canary));
+    writing::write(&mut bytes[SIZE * words..], &four);
 }
 
 // Writes the first bytes again, from a place on: by way of an array of its own, which the compiler makes one move.
@@ -50,7 +39,7 @@ fn repeat(bytes: &mut [u8], at: usize, len: usize)
     bytes[at..at + len].copy_from_slice(&block[0..len]);
 }
 
-// Fills bytes, from the first on.
+// Fills bytes, from the first on. Each copy doubles what is written, up to a page, so no range has the places.
 pub fn fill(bytes: &mut [u8], canary: u32)
     ensures { bytes.new ≡ filled canary (length bytes.old) }
 {
@@ -61,7 +50,7 @@ pub fn fill(bytes: &mut [u8], canary: u32)
     fill_words(&mut bytes[0..FRONT], canary);
     let mut at = FRONT;
     while at < bytes.len() {
-        let len = least(least(COPY, at), bytes.len() - at);
+        let len = COPY.min(at).min(bytes.len() - at);
         repeat(bytes, at, len);
         at += len;
     }
@@ -71,19 +60,15 @@ pub fn fill(bytes: &mut [u8], canary: u32)
 pub fn fill_slots(heap: &mut [u8], layout: Layout, canary: u32)
     ensures { heap.new ≡ filled_heap layout canary heap.old }
 {
-    let mut class: usize = 0;
-    while class < CLASSES {
-        let start = least(class * wide(layout.region), heap.len());
-        let end = least(
-            start + layout.slots(class) * layout.slot_size(class),
-            heap.len(),
-        );
+    for class in 0..CLASSES {
+        let start = (class * layout.region as usize).min(heap.len());
+        let end = (start + layout.slots(class) * layout.slot_size(class)).min(heap.len());
         fill(&mut heap[start..end], canary);
-        class += 1;
     }
 }
 
 // The first damaged byte; the bytes' length where there is none.
+#[tactic(auto, using(crate::proofs::Damage::damage_found))]
 pub fn first_damage(bytes: &[u8], canary: u32) -> usize
     ensures { result ≡ first_damage canary bytes.now }
 {

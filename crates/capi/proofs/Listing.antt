@@ -1,4 +1,5 @@
 -- No inspection lists more slots than there are, so that a list of as many numbers is never too short.
+use Rattle.std.specs.Prelude.{Ok}
 use Prim.Native.Nat.{ℕ, zero, suc, ◌+◌, ◌-◌, ◌*◌, ◌/◌, ◌≤◌, ◌<◌}
 use mathlib.Core.Path.{◌≡◌, refl, ap, ap₂, ◌∙◌}
 use mathlib.Core.Bool.{Bool, true, false, and-false}
@@ -14,7 +15,6 @@ use Rattle.search.proofs.Those.{those_few}
 use Rattle.geometry.specs.declared.Layout.{Layout}
 use Rattle.geometry.specs.Layout.{classes, slot_size, slots, slot_start, locate}
 use Rattle.geometry.proofs.Slots.{slot_located, located_start, slots_held}
-use Rattle.judge.specs.declared.Judged.TheVariants.{Laid}
 use Rattle.judge.specs.Judge.{admit}
 use Rattle.rules.specs.Object.{is_start}
 use Rattle.rules.specs.Inspect.{is_hit, hits, listed, inspection}
@@ -131,7 +131,7 @@ module _ (G : Layout) (m h : List ℕ) where
 -- ---- of an inspection
 
 -- with a list of as many numbers as there are slots, all hits are listed
-pub never_short : (h m list : List ℕ) {G : Layout} → admit (length h) m ≡ Laid G → count_slots (length h) m ≤ length list
+pub never_short : (h m list : List ℕ) {G : Layout} → admit (length h) m ≡ Ok G → count_slots (length h) m ≤ length list
     → inspection h m list ≡ listed list (hits G m h)
 never_short h m list {G} e long =
     let enough : all_slots G ≤ length list = rw (admitted_laid (length h) m e) at long in

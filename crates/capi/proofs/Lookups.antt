@@ -1,47 +1,33 @@
 -- What the lookups of slots rest on, a slot's small numbers and the count class by class; and what they tell: a slot is
 -- found exactly where it has the byte.
 use Prim.Native.Nat.{ℕ, ◌+◌, ◌*◌, ◌/◌, ◌%◌, ◌≤◌, ◌<◌}
-use mathlib.Core.Path.{◌≡◌, refl, ap, ap₂, ◌∙◌}
+use mathlib.Core.Path.{◌≡◌, refl, ap₂}
 use mathlib.Core.Bool.{Bool, true, false}
 use native.Mathlib.Nat.{mul-le-mul_right, div-add-mod'}
 use native.Mathlib.Numerals.{add-one}
 use native.Mathlib.Omega.{arith}
-use borrow.Author.Tests.{lt-ltb, le-ltb, ltb-true}
+use borrow.Author.Tests.{ltb-true}
 use lib.Dec.{ltb}
 use Rattle.geometry.specs.declared.Layout.{Layout}
 use Rattle.geometry.specs.Layout.{classes, longest_region, slot_size, slots, slot_start, locate}
 use Rattle.geometry.proofs.Slots.{slots_class, slot_within, slot_located, into_lt}
-use Rattle.capi.specs.Slots.{no_slot, slot_of, slot_at, slots_before, all_slots}
+use Rattle.capi.specs.Slots.{slot_of, slot_at, slots_before}
 
-module _ (G : Layout) (c i : ℕ) {n : ℕ} (has : n ≡ slots G c) where
-  -- the class has no such slot
-  pub slot_none : n ≤ i → no_slot ≡ slot_of G c i
-  slot_none few = rw (le-ltb i (slots G c) (rw has at few))
-
-  module _ (some : i < n) {region size : ℕ} (regions : region ≡ G.region) (sizes : size ≡ slot_size G c) where
-    -- it has, and these are its numbers
-    pub slot_some : slot_of G c i
-        ≡ record { size_class = c; number = i; start = c * region + i * size; len = size }
-    slot_some = rw (regions, sizes, lt-ltb i (slots G c) (rw has at some))
-
-    -- which are small
-    pub slot_small : G.region ≤ longest_region
-        → (c < classes) × (c * region ≤ 11 * longest_region) × (i * size + size ≤ longest_region)
-    slot_small small =
-        let there : i < slots G c = rw has at some in
-        let class : c < classes = slots_class G c i there in
-        let below : c * region ≤ 11 * region = mul-le-mul_right region (omega arith) in
-        let ends : i * size + size ≤ G.region = rw sizes (slot_within G c i there) in
-        (class, omega arith, omega arith)
+module _ (G : Layout) (c i : ℕ) {n size : ℕ} (has : n ≡ slots G c) (some : i < n) (sizes : size ≡ slot_size G c) where
+  -- the numbers of a slot that the class has are small
+  pub slot_small : G.region ≤ longest_region
+      → (c < classes) × (c * G.region ≤ 11 * longest_region) × (i * size + size ≤ longest_region)
+  slot_small small =
+      let there : i < slots G c = rw has at some in
+      let class : c < classes = slots_class G c i there in
+      let below : c * G.region ≤ 11 * G.region = mul-le-mul_right G.region (omega arith) in
+      let ends : i * size + size ≤ G.region = rw sizes (slot_within G c i there) in
+      (class, omega arith, omega arith)
 
 -- one class more
 pub slots_next : (G : Layout) (c : ℕ) {all n : ℕ} → all ≡ slots_before G c → n ≡ slots G c → all + n ≡ slots_before G (c + 1)
 unfolding slots_before
 slots_next G c before has = rw (add-one, before, has)
-
--- all classes are passed
-pub slots_counted : (G : Layout) (c : ℕ) {all : ℕ} → all ≡ slots_before G c → c ≡ classes → all ≡ all_slots G
-slots_counted G c before done = before ∙ ap (slots_before G) done
 
 -- ---- which slot is found
 

@@ -1,6 +1,6 @@
 -- Answers as the C interface gives them.
 use Rattle.std.specs.Prelude.{ℕ, cond, eqb}
-use Rattle.answer.specs.Reply.{Reply}
+use Rattle.answer.specs.declared.Reply.{Reply}
 use Rattle.geometry.specs.Layout.{region_of, layout_of, metadata_length}
 use Rattle.view.specs.declared.Place.{Place}
 use Rattle.view.specs.declared.Place.TheVariants.{Heap, Page}

@@ -4,25 +4,22 @@
 
 mod slots;
 
-ghost use Rattle.std.specs.Prelude.{◌≡◌, length};
+ghost use Rattle.std.specs.Prelude.{◌≡◌, length, Ok};
 ghost use Rattle.answer.specs.Reply.{reply_of};
 ghost use Rattle.rules.specs.Open.{setup};
 ghost use Rattle.rules.specs.Serve.{lent_with};
 ghost use Rattle.rules.specs.Call.{serve, reading, opening};
 ghost use Rattle.rules.specs.Inspect.{inspection};
-ghost use Rattle.vote.specs.declared.Verdict.TheVariants.{Agreed};
 ghost use Rattle.vote.specs.Decide.{decide, tally, tally_of, refused_with, output_after};
-ghost use Rattle.whole.specs.Whole.{whole};
+ghost use Rattle.whole.specs.Whole.{whole, answer_of};
 ghost use Rattle.capi.specs.Numbers.{reply_in, tally_in, read_part, metadata_for, interface};
 ghost use Rattle.capi.specs.Slots.{nth_slot, find_slot, count_slots, stored_pattern};
 
-use answer::{Answer, Refusal};
+use answer::{Answer, Refusal, Reply};
 use geometry::{CANARY, Plan};
-use judge::Judged;
-use numbers::wide;
 use view::Place;
-use vote::Verdict;
-use whole::Consensus;
+use vote::Elected;
+use whole::Failure;
 
 #[repr(C)]
 #[derive(Clone, Copy)]
@@ -51,7 +48,7 @@ pub struct PohelduPart {
 
 // A slot, live or clear: its class and its number there, and where its bytes lie.
 #[repr(C)]
-#[derive(Clone, Copy)]
+#[derive(Clone, Copy, Default)]
 pub struct PohelduSlot {
     pub size_class: u32,
     pub number: u32,
@@ -59,12 +56,12 @@ pub struct PohelduSlot {
     pub len: u32,
 }
 
-fn in_numbers(answer: Answer) -> PohelduAnswer
-    ensures { reply_in result ≡ reply_of answer }
-{
-    PohelduAnswer {
-        number: answer.number(),
-        value: answer.value(),
+impl From<Answer> for PohelduAnswer {
+    ghost from_gives = { λ answer numbers. reply_in numbers ≡ reply_of answer };
+
+    fn from(answer: Answer) -> PohelduAnswer {
+        let Reply { number, value } = Reply::from(answer);
+        PohelduAnswer { number, value }
     }
 }
 
@@ -80,7 +77,7 @@ pub extern "C" fn poheldu_open(
         (reply_in result ≡ called.answer) × (metadata.new ≡ called.metadata)
         × (heap.new ≡ called.heap heap.old) }
 {
-    in_numbers(heap::open(heap, metadata, z, w, pattern))
+    heap::open(heap, metadata, z, w, pattern).into()
 }
 
 #[unsafe(no_mangle)]
@@ -96,7 +93,7 @@ pub extern "C" fn poheldu_serve(
         (reply_in result ≡ called.answer) × (metadata.new ≡ called.metadata)
         × (heap.new ≡ called.heap heap.old) }
 {
-    in_numbers(heap::serve(heap, metadata, request, source, page))
+    heap::serve(heap, metadata, request, source, page).into()
 }
 
 #[unsafe(no_mangle)]
@@ -111,22 +108,16 @@ pub extern "C" fn poheldu_read(
         result ≡ read_part called }
 {
     let looked = heap::look(heap, metadata, offset, count, page);
-    let answer = looked.answer();
-    let view = looked.view();
-    let place = view.place;
-    match place {
-        Place::Heap(start) => PohelduPart {
-            number: answer.number(),
-            value: answer.value(),
-            of_page: 0,
-            start,
-        },
-        Place::Page => PohelduPart {
-            number: answer.number(),
-            value: answer.value(),
-            of_page: 1,
-            start: 0,
-        },
+    let Reply { number, value } = Reply::from(view::answer(looked));
+    let (of_page, start) = match view::shown(looked).place {
+        Place::Heap(start) => (0, start),
+        Place::Page => (1, 0),
+    };
+    PohelduPart {
+        number,
+        value,
+        of_page,
+        start,
     }
 }
 
@@ -135,17 +126,17 @@ pub extern "C" fn poheldu_inspect(heap: &[u8], metadata: &[u8], list: &mut [u32]
     ensures { let inspected = inspection heap.now metadata.now list.old in
         (reply_in result ≡ inspected.answer) × (list.new ≡ inspected.list) }
 {
-    in_numbers(inspect::inspect(heap, metadata, list))
+    inspect::inspect(heap, metadata, list).into()
 }
 
-fn agreed(mask: u32, count: u32, replica: u32) -> PohelduVerdict
-    ensures { tally_in result ≡ tally_of (Agreed mask count replica) }
+fn agreed(elected: Elected) -> PohelduVerdict
+    ensures { tally_in result ≡ tally_of (Ok elected) }
 {
     PohelduVerdict {
         number: 0,
-        mask,
-        value: count,
-        replica,
+        mask: elected.mask,
+        value: elected.count,
+        replica: elected.replica,
     }
 }
 
@@ -154,10 +145,33 @@ fn refused(refusal: Refusal, value: u32) -> PohelduVerdict
     ensures { tally_in result ≡ refused_with refusal value }
 {
     PohelduVerdict {
-        number: refusal.number(),
+        number: u32::from(refusal),
         mask: 0,
         value,
         replica: 0,
+    }
+}
+
+impl From<Result<Elected, Refusal>> for PohelduVerdict {
+    ghost from_gives = { λ verdict numbers. tally_in numbers ≡ tally_of verdict };
+
+    fn from(verdict: Result<Elected, Refusal>) -> PohelduVerdict {
+        match verdict {
+            Ok(elected) => agreed(elected),
+            Err(refusal) => refused(refusal, 0),
+        }
+    }
+}
+
+impl From<Result<Elected, Failure>> for PohelduVerdict {
+    ghost from_gives = { λ verdict numbers. tally_in numbers ≡ answer_of verdict };
+
+    fn from(verdict: Result<Elected, Failure>) -> PohelduVerdict {
+        match verdict {
+            Ok(elected) => agreed(elected),
+            Err(Failure::Split { block }) => refused(Refusal::NoAgreement, block),
+            Err(Failure::Refused(refusal)) => refused(refusal, 0),
+        }
     }
 }
 
@@ -171,14 +185,7 @@ pub extern "C" fn poheldu_vote(
     ensures { let d = decide blocks.now replicas block_len (length output.old) in
         (tally_in result ≡ tally d) × (output.new ≡ output_after d output.old) }
 {
-    match vote::vote(blocks, replicas, block_len, output) {
-        Verdict::Agreed {
-            mask,
-            count,
-            replica,
-        } => agreed(mask, count, replica),
-        Verdict::Refused(refusal) => refused(refusal, 0),
-    }
+    vote::vote(blocks, replicas, block_len, output).into()
 }
 
 #[unsafe(no_mangle)]
@@ -191,15 +198,7 @@ pub extern "C" fn poheldu_vote_whole(
     ensures { let voted = whole outputs.now replicas len output.old in
         (tally_in result ≡ voted.answer) × (output.new ≡ voted.output) }
 {
-    match whole::vote(outputs, replicas, len, output) {
-        Consensus::Agreed {
-            mask,
-            count,
-            replica,
-        } => agreed(mask, count, replica),
-        Consensus::Split { block } => refused(Refusal::NoAgreement, block),
-        Consensus::Refused(refusal) => refused(refusal, 0),
-    }
+    whole::vote(outputs, replicas, len, output).into()
 }
 
 // 0 where no heap has this length.
@@ -227,8 +226,8 @@ pub extern "C" fn poheldu_nth_slot(
     ensures { result ≡ nth_slot heap_len metadata.now size_class number }
 {
     match judge::lengths(heap_len, metadata.len()) {
-        Judged::Unfit(_) => slots::none(),
-        Judged::Laid(layout) => slots::numbered(layout, wide(size_class), wide(number)),
+        Err(_) => PohelduSlot::default(),
+        Ok(layout) => slots::numbered(layout, size_class as usize, number as usize),
     }
 }
 
@@ -238,8 +237,8 @@ pub extern "C" fn poheldu_find_slot(heap_len: usize, metadata: &[u8], offset: u3
     ensures { result ≡ find_slot heap_len metadata.now offset }
 {
     match judge::lengths(heap_len, metadata.len()) {
-        Judged::Unfit(_) => slots::none(),
-        Judged::Laid(layout) => {
+        Err(_) => PohelduSlot::default(),
+        Ok(layout) => {
             let at = layout.locate(offset);
             slots::numbered(layout, at.class, at.slot)
         }
@@ -252,8 +251,8 @@ pub extern "C" fn poheldu_count_slots(heap_len: usize, metadata: &[u8]) -> usize
     ensures { result ≡ count_slots heap_len metadata.now }
 {
     match judge::lengths(heap_len, metadata.len()) {
-        Judged::Unfit(_) => 0,
-        Judged::Laid(layout) => slots::all(layout),
+        Err(_) => 0,
+        Ok(layout) => slots::all(layout),
     }
 }
 
@@ -263,8 +262,8 @@ pub extern "C" fn poheldu_stored_pattern(heap_len: usize, metadata: &[u8]) -> u3
     ensures { result ≡ stored_pattern heap_len metadata.now }
 {
     match judge::lengths(heap_len, metadata.len()) {
-        Judged::Unfit(_) => 0,
-        Judged::Laid(_) => words::get(metadata, CANARY),
+        Err(_) => 0,
+        Ok(_) => words::get(metadata, CANARY),
     }
 }
 

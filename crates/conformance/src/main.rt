@@ -11,7 +11,7 @@
 #![tactic(auto)]
 
 ghost use Rattle.std.specs.Prelude.{◌≡◌, ◌+◌, ◌*◌, ◌<◌, ◌≤◌, min, length, drop};
-ghost use Rattle.answer.specs.Reply.{Reply};
+ghost use Rattle.answer.specs.declared.Reply.{Reply};
 ghost use Rattle.words.specs.Word.{word_at};
 ghost use Rattle.writing.specs.Overwrite.{overwrite};
 ghost use Rattle.request.specs.Parse.{request_size};
@@ -24,12 +24,12 @@ ghost use Rattle.replay.specs.Opened.{opened_state};
 ghost use Rattle.conformance.specs.Case.{heap_room, metadata_room, source_room, requests_room, case_of};
 ghost use Rattle.conformance.specs.Digest.{digest};
 
-use answer::Refusal;
+use answer::{Refusal, Reply};
 use geometry::Plan;
-use numbers::{least, wide};
+use program::Failed;
 use std::io::{Read, Write};
-use vote::{LONGEST_BLOCK, Verdict};
-use whole::Consensus;
+use vote::{Elected, LONGEST_BLOCK};
+use whole::Failure;
 
 // Room for the bytes of a heap, of its metadata and of a source, and for requests.
 const HEAP: usize = 98304;
@@ -63,11 +63,10 @@ struct Case {
     block: usize,
 }
 
-// What a case came to: the opening's answer in numbers, and how many bytes its requests' lines have.
+// What a case came to: what the opening answered, and how many bytes its requests' lines have.
 #[derive(Clone, Copy)]
 struct Ran {
-    number: u32,
-    value: u32,
+    opened: Reply,
     written: usize,
 }
 
@@ -75,45 +74,41 @@ struct Ran {
 fn word_up_to(header: &[u8], at: usize, most: usize) -> usize
     ensures { result ≡ min (word_at header.now at) most }
 {
-    least(wide(words::get(header, at)), most)
+    (words::get(header, at) as usize).min(most)
 }
 
 // Reads a header. No heap that there is room for has more than 318 bytes of metadata, so its length is never cut.
 fn case_of(header: &[u8]) -> Case
-    ensures value { result ≡ case_of header.now }
-    ensures heap_le_heap_room { (result.heap ≤ heap_room) × (result.metadata ≤ metadata_room)
+    ensures read { result ≡ case_of header.now }
+    ensures within { (result.heap ≤ heap_room) × (result.metadata ≤ metadata_room)
         × (result.source ≤ source_room) × (result.requests ≤ request_size * requests_room) }
 {
     let heap = word_up_to(header, 0, HEAP);
     let requests = word_up_to(header, 20, REQUESTS);
     Case {
         heap,
-        metadata: least(Plan::of(heap).metadata, METADATA),
+        metadata: Plan::of(heap).metadata.min(METADATA),
         z: words::get(header, 4),
         w: words::get(header, 8),
         canary: words::get(header, 12),
         source: word_up_to(header, 16, SOURCE),
         requests: request::SIZE * requests,
-        replicas: wide(words::get(header, 24)),
-        block: wide(words::get(header, 28)),
+        replicas: words::get(header, 24) as usize,
+        block: words::get(header, 28) as usize,
     }
 }
 
 // A number that every byte moves: two heaps that differ in one byte have different ones.
-#[tactic(auto, unfolding(crate::specs::Digest::digest))]
-fn digest(bytes: &[u8]) -> u64
+fn digest(bytes: &[u8]) -> u32
     ensures { result ≡ digest 0 bytes.now }
 {
-    let mut sum: u64 = 0;
-    let mut i: usize = 0;
-    while i < bytes.len() {
-        sum = (31 * sum + bytes[i] as u64) % (1 << 32);
-        i += 1;
-    }
-    sum
+    bytes.iter().fold(0, |sum: u32, byte| {
+        sum.wrapping_mul(31).wrapping_add(u32::from(*byte))
+    })
 }
 
-// Opens the heap, and serves the requests whatever the opening answered.
+// Opens the heap, and serves the requests whatever the opening answered. A struct of these borrows of the arrays in
+// `main` would be taken apart again in each function.
 fn run(
     heap: &mut [u8],
     metadata: &mut [u8],
@@ -122,40 +117,37 @@ fn run(
     requests: &[u8],
     out: &mut [u8],
 ) -> Ran
-    ensures fact { let given = setup case.z case.w case.canary in
+    ensures opened { let given = setup case.z case.w case.canary in
         let opened : Reply = (opening (length heap.old) metadata.old given).answer in
-        ◌≡◌ {A = Reply} (record { number = result.number; value = result.value }) opened }
-    ensures fact_2 { let given = setup case.z case.w case.canary in
+        result.opened ≡ opened }
+    ensures replayed { let given = setup case.z case.w case.canary in
         let s : State = opened_state heap.old metadata.old given in
         let b : Batch = batch_of source.now (length out.old) s 1 requests.now in
         (result.written ≡ length b.text)
         × (out.new ≡ overwrite out.old 0 b.text)
         × (state_of heap.new metadata.new ≡ b.state) }
-    ensures written_in_bounds { result.written ≤ length out.new }
+    ensures in_bounds { result.written ≤ length out.new }
 {
     let answer = heap::open(heap, metadata, case.z, case.w, case.canary);
     let done = replay::batch(heap, metadata, requests, source, 1, out);
     Ran {
-        number: answer.number(),
-        value: answer.value(),
+        opened: Reply::from(answer),
         written: done.written,
     }
 }
 
-// Prints a line: a word, and numbers.
-fn print_line<W: Write>(lines: &mut W, word: &[u8], numbers: &[u64]) {
-    let _ = lines.write_all(word);
-    let mut i: usize = 0;
-    while i < numbers.len() {
-        let number = numbers[i];
+// Prints a line: a word, and numbers. Nobody waits for it, so it does not look whether a write failed, and promises
+// nothing: after a failed write even a writer of known bytes may hold any part of the line.
+fn print_line<W: Write>(lines: &mut W, word: &str, numbers: &[u32]) {
+    let _ = lines.write_all(word.as_bytes());
+    for number in numbers {
         let _ = write!(lines, " {number}");
-        i += 1;
     }
     let _ = lines.write_all(b"\n");
 }
 
-// Runs a case, and prints a line for its opening, those of its requests and one for its heap. Answers false where those
-// of its requests could not be written.
+// Runs a case, and prints a line for its opening, those of its requests and one for its heap. Where those of its
+// requests cannot be written, it says so and prints no more.
 fn print_run<W: Write, E: Write>(
     lines: &mut W,
     errors: &mut E,
@@ -165,7 +157,7 @@ fn print_run<W: Write, E: Write>(
     source: &[u8],
     requests: &[u8],
     out: &mut [u8],
-) -> bool
+) -> Result<(), Failed>
     ensures { let given = setup case.z case.w case.canary in
         let s : State = opened_state heap.old metadata.old given in
         let b : Batch = batch_of source.now (length out.old) s 1 requests.now in
@@ -173,38 +165,59 @@ fn print_run<W: Write, E: Write>(
         × (out.new ≡ overwrite out.old 0 b.text) }
 {
     let ran = run(heap, metadata, case, source, requests, out);
-    print_line(lines, b"open", &[ran.number as u64, ran.value as u64]);
-    let written = ran.written;
-    if !program::print(
+    print_line(lines, "open", &[ran.opened.number, ran.opened.value]);
+    program::print(
         lines,
         errors,
-        &out[0..written],
+        &out[0..ran.written],
         b"conformance: standard output",
-    ) {
-        return false;
-    }
-    print_line(lines, b"heap", &[digest(heap)]);
-    true
+    )?;
+    print_line(lines, "heap", &[digest(heap)]);
+    Ok(())
 }
 
-// Prints the line of a vote: its answer in numbers, and a digest of its output.
-fn print_tally<W: Write>(
-    lines: &mut W,
-    word: &[u8],
+// A vote's answer in numbers: the refusal's, the mask of those that agree, how many these are or the block without
+// agreement, and the first of them.
+#[derive(Clone, Copy)]
+struct Tally {
     number: u32,
     mask: u32,
     value: u32,
     replica: u32,
-    output: &[u8],
-) {
+}
+
+impl Tally {
+    fn refused(refusal: Refusal, value: u32) -> Tally {
+        Tally {
+            number: u32::from(refusal),
+            mask: 0,
+            value,
+            replica: 0,
+        }
+    }
+}
+
+impl From<Elected> for Tally {
+    fn from(elected: Elected) -> Tally {
+        Tally {
+            number: 0,
+            mask: elected.mask,
+            value: elected.count,
+            replica: elected.replica,
+        }
+    }
+}
+
+// Prints the line of a vote: its answer in numbers, and a digest of its output.
+fn print_tally<W: Write>(lines: &mut W, word: &str, tally: Tally, output: &[u8]) {
     print_line(
         lines,
         word,
         &[
-            number as u64,
-            mask as u64,
-            value as u64,
-            replica as u64,
+            tally.number,
+            tally.mask,
+            tally.value,
+            tally.replica,
             digest(output),
         ],
     );
@@ -221,14 +234,11 @@ fn print_vote<W: Write>(
     ensures { let d = decide blocks.now replicas block_len (length output.old) in
         output.new ≡ output_after d output.old }
 {
-    match vote::vote(blocks, replicas, block_len, output) {
-        Verdict::Agreed {
-            mask,
-            count,
-            replica,
-        } => print_tally(lines, b"vote", 0, mask, count, replica, output),
-        Verdict::Refused(refusal) => print_tally(lines, b"vote", refusal.number(), 0, 0, 0, output),
-    }
+    let tally = match vote::vote(blocks, replicas, block_len, output) {
+        Ok(elected) => Tally::from(elected),
+        Err(refusal) => Tally::refused(refusal, 0),
+    };
+    print_tally(lines, "vote", tally, output);
 }
 
 // Has replicas vote on whole outputs, and prints the line of their answer.
@@ -242,36 +252,16 @@ fn print_whole<W: Write>(
     ensures { let voted = whole outputs.now replicas len output.old in
         output.new ≡ voted.output }
 {
-    match whole::vote(outputs, replicas, len, output) {
-        Consensus::Agreed {
-            mask,
-            count,
-            replica,
-        } => print_tally(lines, b"whole", 0, mask, count, replica, output),
-        Consensus::Split { block } => {
-            print_tally(
-                lines,
-                b"whole",
-                Refusal::NoAgreement.number(),
-                0,
-                block,
-                0,
-                output,
-            )
-        }
-        Consensus::Refused(refusal) => print_tally(
-            lines,
-            b"whole",
-            refusal.number(),
-            0,
-            0,
-            0,
-            output,
-        ),
-    }
+    let tally = match whole::vote(outputs, replicas, len, output) {
+        Ok(elected) => Tally::from(elected),
+        Err(Failure::Split { block }) => Tally::refused(Refusal::NoAgreement, block),
+        Err(Failure::Refused(refusal)) => Tally::refused(refusal, 0),
+    };
+    print_tally(lines, "whole", tally, output);
 }
 
-// Reads until the slice is full, the input ends or a read fails, and answers how many bytes came.
+// Reads until the slice is full, the input ends or a read fails, and answers how many bytes came. A `while`, since
+// std's read_exact doesn't answer how many there were, and read_to_end wants a Vec, which no program here has.
 fn read_full<R: Read>(reader: &mut R, into: &mut [u8]) -> usize
     ensures { result ≤ length into.new }
 {
@@ -279,7 +269,7 @@ fn read_full<R: Read>(reader: &mut R, into: &mut [u8]) -> usize
     while done < into.len() {
         match reader.read(&mut into[done..]) {
             Ok(count) if count > 0 => done += count,
-            _ => return done,
+            _ => break,
         }
     }
     done
@@ -305,32 +295,29 @@ fn main(rt: HostRuntime) {
     let mut agreed = [0u8; LONGEST_BLOCK];
     let mut whole = [0u8; WHOLE];
     let mut out = [0u8; OUTPUT];
-    let mut cases: u32 = 0;
     // A proved loop ends: this one ends with the input, or after more cases than any input has.
-    while cases < u32::MAX {
+    for _ in 0..u32::MAX {
         if read_full(&mut reader, &mut header) < HEADER {
             return;
         }
         let case = case_of(&header);
-        let heap_len = case.heap;
-        let metadata_len = case.metadata;
         let lent_len = read_front(&mut reader, &mut source, case.source);
         let lent = &source[0..lent_len];
         let got = read_front(&mut reader, &mut requests, case.requests);
-        if !print_run(
+        let shown = print_run(
             &mut lines,
             &mut errors,
-            &mut heap[0..heap_len],
-            &mut metadata[0..metadata_len],
+            &mut heap[0..case.heap],
+            &mut metadata[0..case.metadata],
             case,
             lent,
             &requests[0..got],
             &mut out,
-        ) {
+        );
+        if shown.is_err() {
             return;
         }
         print_vote(&mut lines, lent, case.replicas, case.block, &mut agreed);
         print_whole(&mut lines, lent, case.replicas, case.block, &mut whole);
-        cases += 1;
     }
 }

@@ -2,11 +2,10 @@
 use Prim.Native.Nat.{ℕ, zero, suc, min, ◌+◌, ◌-◌, ◌<◌, ◌≤◌}
 use mathlib.Core.Path.{◌≡◌, refl, sym, ap, ◌∙◌}
 use mathlib.Core.List.{List, ◌∷◌, ◌++◌, append_assoc, append-nil}
-use native.Mathlib.Nat.{sub-zero, sub_self}
-use native.Mathlib.Numerals.{add-one}
+use native.Mathlib.Nat.{sub_self}
 use native.Mathlib.Decide.{dec_le}
 use native.Mathlib.Omega.{arith}
-use lib.ListN.{length, take, drop, set, replicate, length-append, length-take, length-drop, length-set, length-replicate}
+use lib.ListN.{length, take, drop, replicate, length-append, length-take, length-drop, length-replicate}
 use lib.Seq.{take_all, drop-length, length-take-le, take-take, take_at, drop_at, drop-drop, take-append-le, take-append-add}
 use Rattle.scan.specs.Bytes.{index_of}
 use Rattle.copies.proofs.Index.{index_le}
@@ -14,7 +13,7 @@ use Rattle.request.specs.declared.Kind.TheVariants.{String, Padded}
 use Rattle.writing.specs.Overwrite.{overwrite}
 use Rattle.writing.proofs.Fitting.{Put}
 use Rattle.copies.specs.Writes.{string_in, clipped, writes}
-use Rattle.copies.proofs.Clipping.{clipped_fits, clipped_longer}
+use Rattle.copies.proofs.Clipping.{clipped_longer}
 
 -- ---- strings
 
@@ -22,40 +21,10 @@ use Rattle.copies.proofs.Clipping.{clipped_fits, clipped_longer}
 overwrite_all : (t text : List ℕ) → length text ≡ length t → overwrite t 0 text ≡ text
 overwrite_all t text e = rw (e, drop-length, append-nil)
 
--- a source was written as far as it fits
-module _ (s t : List ℕ) {r : ℕ} {mid : List ℕ} (put : Put t (take (length t) s) r mid) where
-  -- that is all of it
-  pub clipped_whole : length s ≤ length t → Put t (clipped (length t) s) r mid
-  clipped_whole h = rw (clipped_fits (length t) s h, ← take_all (length t) s h) put
-
-  module _ (long : length t < length s) where
-    -- it is longer, and there is no room
-    pub clipped_nowhere : length t ≡ 0 → Put t (clipped (length t) s) r mid
-    clipped_nowhere none =
-        let text : clipped (length t) s ≡ take (length t) s = clipped_longer (length t) s long ∙ rw none in
-        rw text put
-
-    -- it is longer, and the last byte was set to zero
-    pub clipped_closed : Put t (clipped (length t) s) r (set mid (length t - 1) 0)
-    clipped_closed =
-        let front : List ℕ = take (length t) s in
-        let closed : List ℕ = set front (length t - 1) 0 in
-        let full : length front ≡ length t = length-take-le (length t) s (omega arith) in
-        let size : length closed ≡ length t = length-set front (length t - 1) 0 ∙ full in
-        let whole : mid ≡ front = put.1 ∙ overwrite_all t front full in
-        rw (clipped_longer (length t) s long) (put.0 ∙ full ∙ sym size, rw whole (sym (overwrite_all t closed size)))
-
 -- the first zero byte was sought among those that fit
 module _ (s : List ℕ) (room : ℕ) {seen end : ℕ} (fit : seen ≡ min (length s) room) (found : end ≡ min seen (index_of 0 s)) where
   abbrev text : List ℕ
   text = string_in s
-
-  -- it is there: the source through it fits
-  pub string_part : end < seen → take room (take (end + 1 - 0) s) ≡ writes String s room
-  string_part h =
-      let all : end ≡ index_of 0 s = omega arith in
-      let fits : length text ≤ room = rw length-take (omega arith) in
-      rw (all, sub-zero, add-one) (take_all room text fits ∙ sym (clipped_fits room text fits))
 
   -- there is none: the source is the string, or both are longer than the room and begin alike
   pub string_rest : seen ≤ end → clipped room s ≡ writes String s room
@@ -120,14 +89,14 @@ module _ (s : List ℕ) (count : ℕ) where
   -- the text copied and the rest cleared
   pub padded_put : (t : List ℕ) {room seen text : ℕ} {mid zeros : List ℕ} → room ≡ min count (length t) → seen ≡ min (length s) room
       → text ≡ min seen (index_of 0 s)
-      → mid ≡ overwrite t 0 (take (length t) (take (text - 0) s))
+      → mid ≡ overwrite t 0 (take (length t) (take text s))
       → zeros ≡ replicate (length (take (room - text) (drop text mid))) 0
       → Put t (writes (Padded count) s (length t)) room (take text mid ++ (zeros ++ drop (room - text) (drop text mid)))
   unfolding k
   padded_put t {room} {seen} {text} {mid} {zeros} roomy view at copied cleared =
       let cut : text ≡ min room k = omega (arith, at, index_le 0 s) in
       let size : length (take text s) ≡ text = length-take-le text s (omega (arith, index_le 0 s)) in
-      let middle : mid ≡ take text s ++ drop text t = copied ∙ rw (sub-zero, take_all (length t) (take text s) (rw size (omega arith)), size) in
+      let middle : mid ≡ take text s ++ drop text t = copied ∙ rw (take_all (length t) (take text s) (rw size (omega arith)), size) in
       let before : take text mid ≡ take text s = rw middle (take_at (take text s) (drop text t) text size) in
       let after : drop text mid ≡ drop text t = rw middle (drop_at (take text s) (drop text t) text size) in
       let left : length (take (room - text) (drop text t)) ≡ room - text =

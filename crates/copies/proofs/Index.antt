@@ -1,5 +1,5 @@
 -- Where a byte is first found, as a search finds it.
-use Prim.Native.Nat.{ℕ, suc, min, ◌+◌, ◌-◌, ◌<◌, ◌≤◌}
+use Prim.Native.Nat.{ℕ, suc, min, ◌+◌, ◌<◌, ◌≤◌}
 use mathlib.Core.Path.{◌≡◌, sym, ◌∙◌}
 use mathlib.Core.Bool.{Bool, true, false}
 use mathlib.Core.List.{List, [], ◌∷◌}
@@ -34,10 +34,10 @@ index_le b xs = omega (arith, index_first b xs, first_range (is_byte b xs) 0 (le
 
 -- the first of some bytes
 pub index_front : (b : ℕ) (s : List ℕ) (count : ℕ) {r : ℕ} → count ≤ length s
-    → r ≡ first (is_byte b (take (count - 0) s)) 0 (length (take (count - 0) s)) → r ≡ min count (index_of b s)
+    → r ≡ first (is_byte b (take count s)) 0 (length (take count s)) → r ≡ min count (index_of b s)
 index_front b s count h found =
     let same : (i : ℕ) → i < count → is_byte b (take count s) i ≡ is_byte b s (0 + i) =
     λ i l. rw (get_or-take count s i 0 l, zero-add) in
-    rw (sub-zero, length-take-le count s h) at found
+    rw (length-take-le count s h) at found
     ∙ first_part (is_byte b (take count s)) (is_byte b s) 0 count (length s) same (omega arith) (omega arith)
     ∙ rw (sub-zero, index_first)

@@ -2,3 +2,4 @@
 pub mod Index
 pub mod Contents
 pub mod Clipping
+pub mod Zeros

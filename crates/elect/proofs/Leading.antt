@@ -86,11 +86,6 @@ leader_front table k (suc n) h l none = elim (ℕ_discrete k (suc n)) [
       (leader_front table k n h (omega arith) (λ i a b. none i a (omega arith)))
 ]
 
--- of none the first leads
-leader_none : (table : List (List Bool)) → leader table 0 ≡ 0
-unfolding leader
-leader_none table = refl
-
 -- ---- the loop that finds it
 
 -- the votes of the leader of the first i replicas; of none, 0
@@ -103,47 +98,51 @@ pub record Led (table : List (List Bool)) (best top i : ℕ) : Type 0 where
   pub first : best ≡ leader table i
   pub has : top ≡ top_votes table best i
 
--- the same of one more, which may be the last
-pub record Counted (table : List (List Bool)) (best top i : ℕ) : Type 0 where
-  pub first : best ≡ leader table (suc i)
-  pub has : top ≡ votes_of table best
-
--- none counted yet
+-- none passed yet
 pub led_none : {table : List (List Bool)} → Led table 0 0 0
 unfolding leader
 led_none = record { first = refl; has = refl }
 
--- who is alone leads
+-- who is alone leads, and of none the first
 leader_one : (table : List (List Bool)) → leader table 1 ≡ 0
 unfolding leader
 leader_one table = rw (le-ltb (votes_of table 0) (votes_of table 0) (omega arith), leader)
 
--- the next replica leads if it has more votes; if it has not, who led leads on
-pub led_new : {table : List (List Bool)} {best top i : ℕ} → Led table best top i
-    → {v : ℕ} → v ≡ votes_of table i → top < v
-    → Counted table i v i
+leader_none : (table : List (List Bool)) → leader table 0 ≡ 0
 unfolding leader
-led_new {table} {i = zero} l e m = record { first = sym (leader_one table); has = e }
-led_new {table} {i = suc i} l e m = record { first = sym (rw (lt-ltb _ _ (rw (l.has, l.first, e) at m), leader)); has = e }
+leader_none table = refl
 
-pub led_old : {table : List (List Bool)} {best top i : ℕ} → Led table best top i
-    → {v : ℕ} → v ≡ votes_of table i → v ≤ top
-    → Counted table best top i
-unfolding leader
-led_old {table} {i = zero} l e m =
-    let none : ◌≡◌ {A = ℕ} _ 0 = l.first in
-    rw none record { first = sym (leader_one table); has = omega (arith, e, l.has) }
-led_old {table} {i = suc i} l e m =
-    record { first = sym (rw (le-ltb _ _ (rw (l.has, l.first, e) at m), leader) (sym l.first)); has = l.has }
+module _ {table : List (List Bool)} where
+  -- the next replica leads if it has more votes; if it has not, who led leads on
+  pub led_new : {best top i : ℕ} → Led table best top i → {v : ℕ} → v ≡ votes_of table i → top < v → Led table i v (i + 1)
+  unfolding leader
+  led_new {i = zero} l e m = record { first = sym (leader_one table); has = e }
+  led_new {i = suc i} l e m =
+      rw add-one record { first = sym (rw (lt-ltb _ _ (rw (l.has, l.first, e) at m), leader)); has = e }
 
-module _ {table : List (List Bool)} {best top i : ℕ} (c : Counted table best top i) where
-  pub led_more : Led table best top (i + 1)
-  led_more = rw add-one record { first = c.first; has = c.has }
+  pub led_old : {best top i : ℕ} → Led table best top i → {v : ℕ} → v ≡ votes_of table i → v ≤ top → Led table best top (i + 1)
+  unfolding leader
+  led_old {i = zero} l e m =
+      let none : ◌≡◌ {A = ℕ} _ 0 = l.first in
+      rw none record { first = sym (leader_one table); has = omega (arith, e, l.has) }
+  led_old {i = suc i} l e m =
+      rw add-one record { first = sym (rw (le-ltb _ _ (rw (l.has, l.first, e) at m), leader) (sym l.first)); has = l.has }
 
-  -- all k are counted; of none the first leads
-  pub led_all : {k : ℕ} → k ≤ i + 1 → i ≤ k - 1 → (best ≡ leader table k) × (best ≤ k - 1)
-  led_all {k} h l = let e = go k h l in (e, omega (arith, leader_le table k))
+module _ {table : List (List Bool)} {best top i : ℕ} (l : Led table best top i) where
+  pub led_le : best ≤ i - 1
+  led_le = omega (arith, leader_le table i, l.first)
+
+  pub led_votes : 0 < i → top ≡ votes_of table best
+  led_votes h = go i h l.has
     where
-      go : (k : ℕ) → k ≤ i + 1 → i ≤ k - 1 → best ≡ leader table k
-      go zero h l = let z : i ≡ 0 = omega arith in c.first ∙ rw z (leader_one table ∙ sym (leader_none table))
-      go (suc k) h l = let z : i ≡ k = omega arith in (rw z at c).first
+      go : (i : ℕ) → 0 < i → top ≡ top_votes table best i → top ≡ votes_of table best
+      go zero h e = absurd (omega arith)
+      go (suc i) h e = e
+
+  -- all k are passed
+  pub led_all : {k : ℕ} → k ≤ i → 0 < i → i - 1 ≤ k - 1 → best ≡ leader table k
+  led_all {k} h g m = go k h m
+    where
+      go : (k : ℕ) → k ≤ i → i - 1 ≤ k - 1 → best ≡ leader table k
+      go zero h m = let one : i ≡ 1 = omega arith in l.first ∙ rw one (leader_one table ∙ sym (leader_none table))
+      go (suc k) h m = let all : i ≡ suc k = omega arith in rw all at l.first

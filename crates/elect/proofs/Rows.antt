@@ -7,7 +7,7 @@ use mathlib.Core.Path.{◌≡◌, refl, sym, ap, ◌∙◌}
 use mathlib.Core.Bool.{Bool, true, false, cond, true≢false}
 use mathlib.Core.List.{List, [], ◌∷◌}
 use lib.ListN.{length, get_or, take, drop, length-take, length-drop, drop_of_length-le}
-use lib.Seq.{drop-cons, get_or-take, ext_get_or}
+use lib.Seq.{take_all, drop-cons, get_or-take, ext_get_or}
 use lib.Dec.{eqb}
 use borrow.Author.Tests.{eq-eqb, eqb-true}
 use lib.Pow.{pow_mono}
@@ -15,6 +15,10 @@ use mir.Val.{bool_byte}
 use Rattle.search.specs.Tabulate.{tabulate}
 use Rattle.search.proofs.Tabulate.{tabulate_at, tabulate_length}
 use Rattle.elect.specs.Leader.{most, digits, votes, mask_of, row_of}
+
+-- all sixteen
+pub all_of : (base : ℕ) (row : List Bool) → length row ≡ 16 → digits base (take 16 row) ≡ digits base row
+all_of base row h = ap (digits base) (take_all 16 row (omega arith))
 
 -- a digit is 0 or 1, as the code makes it
 pub digit : (b : Bool) → (bool_byte b ≡ cond b 1 0) × (cond b 1 0 ≤ 1)

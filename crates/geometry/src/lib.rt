@@ -5,7 +5,7 @@ ghost use Rattle.std.specs.Prelude.{◌≡◌, ◌+◌, ◌*◌, ◌^◌, ◌<�
 ghost use Rattle.geometry.specs.Layout.{classes, slot_size, slots, class_of, locate};
 ghost use Rattle.geometry.specs.Layout.{header, bitmap_length, bitmap_at, part_of, plan_of};
 
-use numbers::{least, power_quotient, power_remainder, quotient, remainder, wide};
+use numbers::{power_quotient, power_remainder, quotient, remainder};
 use sizes::{usual_class, usual_size};
 
 pub const CLASSES: usize = sizes::CLASSES;
@@ -59,6 +59,7 @@ fn power(exponent: u32) -> u32
 
 impl Layout {
     // The bytes of a slot; 0 past the last class.
+    #[tactic(auto, unfolding(crate::specs::Layout::slot_size))]
     pub fn slot_size(self, class: usize) -> usize
         ensures { result ≡ slot_size self class }
     {
@@ -68,10 +69,11 @@ impl Layout {
     pub fn slots(self, class: usize) -> usize
         ensures { (result ≡ slots self class) × (result < 4294967296) }
     {
-        quotient(wide(self.region), self.slot_size(class))
+        quotient(self.region as usize, self.slot_size(class))
     }
 
-    // The class of a size; CLASSES where no slot is large enough.
+    // The class of a size; CLASSES where no slot is large enough, as the definition `class_of` has it: so no Option.
+    #[tactic(auto, unfolding(crate::specs::Layout::slot_size))]
     pub fn class_of(self, size: u32) -> usize
         ensures { result ≡ class_of self size }
     {
@@ -81,8 +83,8 @@ impl Layout {
     pub fn locate(self, offset: u32) -> Location
         ensures { result ≡ locate self offset }
     {
-        let region = wide(self.region);
-        let at = wide(offset);
+        let region = self.region as usize;
+        let at = offset as usize;
         let class = power_quotient(at, region);
         let within = power_remainder(at, region);
         let size = self.slot_size(class);
@@ -104,12 +106,9 @@ impl Layout {
     fn summed_start(self, class: usize) -> usize
         ensures { (result ≡ bitmap_at self class) × (result ≤ header + classes * 536870912) }
     {
-        let last = least(class, CLASSES);
         let mut at = HEADER;
-        let mut passed = 0;
-        while passed < last {
+        for passed in 0..class.min(CLASSES) {
             at += self.bitmap_length(passed);
-            passed += 1;
         }
         at
     }
@@ -120,7 +119,7 @@ impl Layout {
         ensures { (result ≡ bitmap_at self class) × (result ≤ header + classes * 536870912) }
     {
         if class < CLASSES {
-            let region = wide(self.region);
+            let region = self.region as usize;
             let four = 4 * self.slot_size(class);
             if region % four == 0 {
                 return HEADER + region / 32 - region / four;
@@ -130,6 +129,7 @@ impl Layout {
     }
 
     // A bitmap ends where the next one starts.
+    #[tactic(auto, unfolding(crate::specs::Layout::bitmap_at))]
     pub fn part(self, class: usize) -> Part
         ensures { result ≡ part_of self class }
     {
@@ -143,25 +143,23 @@ impl Layout {
 }
 
 impl Plan {
-    // The plan of a heap of this length; its region length is 0 where the length is not allowed. Twice a region has one
-    // bitmap more in front and all others a class later. So the sum is made once, and the compiler, which knows where
-    // it starts, makes it beforehand.
+    // The plan of a heap of this length; its region length is 0 where the length is not allowed, as the definition
+    // `plan_of` has it, and so no Option. Twice a region has one bitmap more in front and all others a class later. So
+    // the sum is made once, and the compiler, which knows where it starts, makes it beforehand.
     pub fn of(heap_len: usize) -> Plan
         ensures { result ≡ plan_of heap_len }
     {
         let first = Layout { region: power(10) };
         let mut metadata = first.bitmap_start(CLASSES);
-        let mut exponent: u32 = 10;
-        while exponent < 21 {
+        for exponent in 10..21 {
             let layout = Layout {
                 region: power(exponent),
             };
-            if heap_len == CLASSES * wide(layout.region) {
+            if heap_len == CLASSES * layout.region as usize {
                 return Plan { layout, metadata };
             }
-            exponent += 1;
             let twice = Layout {
-                region: power(exponent),
+                region: power(exponent + 1),
             };
             metadata = metadata + twice.bitmap_length(0) - layout.bitmap_length(LAST_CLASS);
         }

@@ -1,1 +1,1 @@
-pub mod Relied
+pub mod Carried

@@ -1,30 +1,46 @@
-// Freeing an object: its slot is filled with the canary again.
-ghost use Rattle.std.specs.Prelude.{◌≡◌, length};
-ghost use Rattle.answer.specs.Reply.{reply_of};
-ghost use Rattle.judge.specs.Judge.{Fits};
-ghost use Rattle.rules.specs.Outcome.{reply, metadata_after, heap_after};
+// Freeing an object: its slot is clear, counted no more and filled with the canary again.
 ghost use Rattle.rules.specs.Object.{free};
 
-use crate::{fields, object};
-use answer::Answer;
-use geometry::Layout;
-use numbers::wide;
+use crate::lent::Heap;
+use answer::{Answer, Refusal};
+use geometry::CLASSES;
 
-// A served free answers how long the slot is.
-pub fn free(heap: &mut [u8], metadata: &mut [u8], layout: Layout, offset: u32) -> Answer
-    requires { Fits layout (length heap.old) (length metadata.old) }
-    ensures { let m = metadata.old in
-        let outcome = free layout m offset in
-        (reply_of result ≡ reply layout outcome) × (metadata.new ≡ metadata_after layout m outcome)
-        × (heap.new ≡ heap_after layout m heap.old outcome) }
-{
-    let canary = fields::canary(metadata);
-    match object::free(metadata, layout, offset) {
-        Answer::Refused(refusal) => Answer::Refused(refusal),
-        Answer::Served(size) => {
-            let start = wide(offset);
-            canary::fill(&mut heap[start..start + wide(size)], canary);
-            Answer::Served(size)
+impl Heap<'_> {
+    ghost use Rattle.heap.specs.Carried.{IsCarried};
+
+    // A served free answers how long the slot is.
+    #[tactic(auto, using(geometry::proofs::Slots::slots_class, crate::proofs::Part::lies, metadata::proofs::Stored::part_bitmap), unfolding(rules::specs::Object::free))]
+    pub fn free(&mut self, offset: u32) -> Answer
+        ensures { let h = self.old in
+            IsCarried h self.new result (free h.layout h.metadata.now offset) }
+    {
+        let layout = self.layout;
+        if CLASSES * layout.region as usize <= offset as usize {
+            return Err(Refusal::OutOfRange);
         }
+        let at = layout.locate(offset);
+        if 0 < at.into || layout.slots(at.class) <= at.slot {
+            return Err(Refusal::NotASlotStart);
+        }
+        let part = layout.part(at.class);
+        let metadata = self.lend();
+        if !bitmap::is_set(&metadata.bytes[part.start..part.end], part.slots, at.slot) {
+            return Err(Refusal::NotAllocated);
+        }
+        let count = metadata.count(at.class);
+        if count == 0 {
+            return Err(Refusal::CorruptMetadata);
+        }
+        let canary = metadata.canary();
+        bitmap::clear(
+            &mut self.metadata[part.start..part.end],
+            part.slots,
+            at.slot,
+        );
+        self.store_count(at.class, count - 1);
+        let start = offset as usize;
+        let size = layout.slot_size(at.class);
+        canary::fill(&mut self.bytes[start..start + size], canary);
+        Ok(size as u32)
     }
 }

@@ -4,6 +4,7 @@ use mathlib.Core.Path.{◌≡◌, refl, sym, ap, ◌∙◌}
 use mathlib.Core.Bool.{Bool}
 use mathlib.Core.List.{List, [], ◌∷◌}
 use native.Mathlib.Nat.{zero-add, add-zero, sub-eq-zero_of_le}
+use native.Mathlib.Decide.{dec_lt}
 use native.Mathlib.Omega.{arith}
 use lib.ListN.{length, take, drop, get_or, set, length-drop, length-take}
 use lib.Seq.{take-length, paste, paste-suc, length-paste, drop-drop, get_or-drop}
@@ -38,12 +39,12 @@ module _ (test : ℕ → Bool) (n : ℕ) (list₀ : List ℕ) where
         take_min (length list₀) (length all) all {n = min found (length list₀)} (omega (arith, is)) ∙ ap (take (length list₀)) (take-length all) in
         (is, so.wrote ∙ rw (front, size, zero-add))
 
-    pub listing_end : n ≤ at → (found ≡ length all) × (list ≡ overwrite list₀ 0 (take (length list₀) all))
+    listing_end : n ≤ at → (found ≡ length all) × (list ≡ overwrite list₀ 0 (take (length list₀) all))
     unfolding those
     listing_end h = listing_all (rw (sub-eq-zero_of_le h) refl)
 
     module _ (h : at < n) {hit : ℕ} (next : hit ≡ first test at (n - at)) where
-      pub listing_last : n ≤ hit → (found ≡ length all) × (list ≡ overwrite list₀ 0 (take (length list₀) all))
+      listing_last : n ≤ hit → (found ≡ length all) × (list ≡ overwrite list₀ 0 (take (length list₀) all))
       listing_last l = listing_all (those_none test (omega arith) next l)
 
       pub listing_onward : at ≤ hit
@@ -80,3 +81,7 @@ module _ (test : ℕ → Bool) (n : ℕ) (list₀ : List ℕ) where
           let (more, is, others) = one_more l in
           let same : min (found + 1) (length list₀) ≡ min found (length list₀) = omega arith in
           record { few = omega arith; ahead = others; wrote = rw same so.wrote }
+
+    -- no more are found
+    pub listing_over : n ≤ first test at (n - at) → (found ≡ length all) × (list ≡ overwrite list₀ 0 (take (length list₀) all))
+    listing_over over = elim (dec_lt at n) [ yes h ↦ listing_last h refl over | no h ↦ listing_end (omega arith) ]

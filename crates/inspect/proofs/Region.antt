@@ -1,10 +1,11 @@
 -- Hits of a region: they are the hits among its slots, side by side.
-use Prim.Native.Nat.{ℕ, suc, ◌+◌, ◌-◌, ◌*◌, ◌/◌, ◌%◌, ◌<◌, ◌≤◌}
+use Rattle.std.specs.Prelude.{Ok, Err, Some, None}
+use Prim.Native.Nat.{ℕ, suc, max, ◌+◌, ◌-◌, ◌*◌, ◌/◌, ◌%◌, ◌<◌, ◌≤◌}
 use mathlib.Core.Path.{◌≡◌, refl, sym, ap, ◌∙◌}
 use mathlib.Core.Bool.{Bool, true, false, not, ◌&&◌, and-eq-true_iff}
 use mathlib.Core.List.{List}
 use native.Mathlib.Nat.{add-sub_cancel_left, lt_of_mul-lt-mul_right, suc-mul, mul-le-mul_right, div-lt_iff_lt-mul, div-add-mod', mod-lt, le_refl}
-use native.Mathlib.Numerals.{add-one}
+use native.Mathlib.Decide.{dec_lt}
 use native.Mathlib.Omega.{arith}
 use borrow.Author.Tests.{lt-ltb, eqb-true, ltb-true}
 use lib.Arith.{digits_div}
@@ -16,14 +17,31 @@ use Rattle.search.proofs.First.{first_found, first_skip, first_none, first_range
 use Rattle.writing.proofs.Parts.{drop_take}
 use Rattle.geometry.specs.declared.Layout.{Layout}
 use Rattle.geometry.specs.declared.Location.{Location}
-use Rattle.geometry.specs.Layout.{classes, heap_length, slot_size, longest_slot, slots, slot_start, locate}
+use Rattle.geometry.specs.declared.Part.{Part}
+use Rattle.geometry.specs.Layout.{classes, heap_length, slot_size, longest_slot, slots, slot_start, locate, part_of, region_of}
 use Rattle.geometry.proofs.Geometry.{slot_size_some, slot_size_whole, slot_size_le}
 use Rattle.geometry.proofs.Slots.{slots_end_le, slot_within, start_located, located_start}
 use Rattle.metadata.specs.Metadata.{canary_of, bitmap_of}
+use Rattle.metadata.proofs.Stored.{part_bitmap}
 use Rattle.canary.specs.Canary.{has_damage}
 use Rattle.rules.specs.Object.{is_start, is_live}
 use Rattle.rules.specs.Inspect.{is_hit}
-use Rattle.inspect.specs.Class.{is_hit_in, SideBySide}
+use Rattle.answer.specs.declared.Refusal.TheVariants.{HeapLength}
+use Rattle.judge.specs.Judge.{admit, Judged}
+use Rattle.judge.proofs.Judging.{admit_fits, admitted_laid, no_heap}
+use Rattle.inspect.specs.Class.{is_hit_in, first_within, SideBySide}
+use Rattle.inspect.proofs.Within.{is_found, is_nowhere, found_at, nowhere_before}
+
+-- a layout that was admitted has regions
+pub admitted_some : (n : ℕ) (m : List ℕ) {G : Layout} → admit n m ≡ Ok G → 0 < G.region
+admitted_some n m {G} e = elim (dec_lt 0 G.region) [
+  | yes h ↦ h
+  | no h ↦
+      let none : region_of n ≡ 0 = omega (arith, ap (λ (L : Layout). L.region) (admit_fits n m e).0) in
+      let unfit : ◌≡◌ {A = Judged} (Err HeapLength) (Ok G) = sym (no_heap n (length m) none) ∙ admitted_laid n m e in
+      let wrong : ◌≡◌ {A = ℕ} 0 1 = cc in
+      absurd (omega arith)
+]
 
 -- the bytes of a class's slots
 abbrev pub slots_of : Layout → ℕ → List ℕ → List ℕ
@@ -55,13 +73,28 @@ around G {at} {n} inside fits r c s k = rw (s, k, c, r) (record {
     class : at / G.region < classes
     class = (div-lt_iff_lt-mul {k = G.region} (omega arith)).1 (omega arith)
 
--- where the region ends
-pub region_end : (G : Layout) {at n class region : ℕ} → at < n → n ≡ heap_length G → region ≡ G.region → class ≡ at / region
-    → (at < (class + 1) * region) × ((class + 1) * region ≤ n) × ((class + 1) * region ≡ suc (at / G.region) * G.region)
-region_end G {at} {n} {class} {region} inside fits r c =
-    let near = around G {class = class} {region = region} inside fits r c refl refl in
-    let after : (class + 1) * region ≡ class * region + region = rw add-one (suc-mul class region) in
-    (omega (arith, after, near.ends), omega (arith, after, near.whole), rw (add-one, c, r))
+-- the part of a class's region that an offset leaves, where the offset does not lie behind it
+module _ (G : Layout) (from class : ℕ) {n : ℕ} (some : 0 < G.region) (fits : n ≡ heap_length G) (reached : from / G.region ≤ class) (h : class < classes) where
+  turn_ends : (from < suc class * G.region) × (class * G.region < suc class * G.region) × (suc class * G.region ≤ n)
+  turn_ends =
+      let low : from / G.region * G.region ≤ class * G.region = mul-le-mul_right G.region reached in
+      let high : suc class * G.region ≤ classes * G.region = mul-le-mul_right G.region h in
+      omega (arith, low, high, div-add-mod' from G.region, mod-lt from some, suc-mul class G.region)
+
+  pub turn_inside : max from (class * G.region) < n
+  turn_inside = omega (arith, turn_ends)
+
+  pub turn_class : suc (max from (class * G.region) / G.region) * G.region ≡ suc class * G.region
+  turn_class =
+      let at : ℕ = max from (class * G.region) in
+      let split : at ≡ class * G.region + (at - class * G.region) = omega arith in
+      let is : at / G.region ≡ class =
+      ap (λ (y : ℕ). y / G.region) split ∙ digits_div class (omega (arith, turn_ends, suc-mul class G.region)) in
+      rw is
+
+  -- then the next one is left whole
+  pub turn_next : (max from (class * G.region) ≤ suc class * G.region) × (suc class * G.region ≤ n) × (max from (suc class * G.region) ≡ suc class * G.region)
+  turn_next = omega (arith, turn_ends)
 
 module _ (G : Layout) (m h : List ℕ) (c : ℕ) where
   abbrev pub in_class : ℕ → Bool
@@ -161,45 +194,71 @@ module _ (G : Layout) (m h : List ℕ) (c : ℕ) where
 abbrev pub lent_bytes : List ℕ → ℕ → ℕ → ℕ → ℕ → List ℕ
 lent_bytes h class region count size = take (class * region + count * size - class * region) (drop (class * region) h)
 
--- they are slots, side by side
-pub slots_lie : (G : Layout) (h : List ℕ) {at class region count size : ℕ} → Around at (length h) class region count size → size ≡ slot_size G class
-    → SideBySide (lent_bytes h class region count size) count size
-slots_lie G h {class = class} {region = region} {count = count} {size = size} near s =
-    record {
-      all = rw (add-sub_cancel_left (class * region) (count * size))
-          (length-take-le (count * size) (drop (class * region) h) (rw length-drop (omega (arith, near.all))));
-      some = near.some;
-      whole = rw s (slot_size_whole G class);
-    }
+module _ (G : Layout) (m h : List ℕ) {at class region size : ℕ} {p : Part} (inside : at < length h) (fits : length h ≡ heap_length G)
+    (r : region ≡ G.region) (c : class ≡ at / region) (s : size ≡ slot_size G class) (of : p ≡ part_of G class) where
+  k : p.slots ≡ slots G class
+  k = ap (λ (q : Part). q.slots) of
 
--- where the search among them finds one, and where it finds none
-module _ (G : Layout) (m h : List ℕ) {at class region count size : ℕ} (near : Around at (length h) class region count size)
-    (r : region ≡ G.region) (c : class ≡ at / region) (s : size ≡ slot_size G class) (k : count ≡ slots G class) where
-  lent_slots : lent_bytes h class region count size ≡ slots_of G class h
-  lent_slots = rw (add-sub_cancel_left (class * region) (count * size), r, s, k)
+  near : Around at (length h) class region p.slots size
+  near = around G inside fits r c s k
 
-  module _ {canary from slot : ℕ} {bitmap : List ℕ} (of : canary ≡ canary_of m) (bits : bitmap ≡ bitmap_of G class m)
-      (rounded : from ≡ (at - class * region + size - 1) / size)
-      (found : slot ≡ first (is_hit_in canary (lent_bytes h class region count size) bitmap count size) from (count - from)) where
-    cls : class ≡ at / G.region
-    cls = rw r at c
+  -- they are slots, side by side
+  pub slots_lie : SideBySide (lent_bytes h class region p.slots size) p.slots size
+  slots_lie =
+      record {
+        all = rw (add-sub_cancel_left (class * region) (p.slots * size))
+            (length-take-le (p.slots * size) (drop (class * region) h) (rw length-drop (omega (arith, near.all))));
+        some = near.some;
+        whole = rw s (slot_size_whole G class);
+      }
 
-    begins : class * G.region ≤ at
-    begins = rw r at near.begins
+  -- each starts within the heap
+  pub slot_inside : {slot : ℕ} → slot < p.slots → class * region + slot * size ≤ length h
+  slot_inside {slot} l =
+      let before : slot * size ≤ p.slots * size = mul-le-mul_right size (omega arith) in
+      omega (arith, before, near.all)
 
-    ends : at < suc class * G.region
-    ends = omega (arith, suc-mul class G.region, rw r at near.ends)
+  lent_slots : lent_bytes h class region p.slots size ≡ slots_of G class h
+  lent_slots = rw (add-sub_cancel_left (class * region) (p.slots * size), r, s, k)
 
-    among : slot ≡ first (in_class G m h class) from (slots G class - from)
-    among = rw (lent_slots, of, bits, k, s) at found
+  cls : class ≡ at / G.region
+  cls = rw r at c
+
+  begins : class * G.region ≤ at
+  begins = rw r at near.begins
+
+  ends : at < suc class * G.region
+  ends = omega (arith, suc-mul class G.region, rw r at near.ends)
+
+  -- and within its region
+  in_region : {slot : ℕ} → slot < p.slots → class * region + slot * size < suc (at / G.region) * G.region
+  in_region {slot} l =
+      let fits : slot * slot_size G class + slot_size G class ≤ G.region = slot_within G class slot (rw k at l) in
+      rw (← cls, r, s) (omega (arith, fits, suc-mul class G.region, rw s at near.some))
+
+  -- the search among them, where it finds one and where it finds none
+  module _ {canary from : ℕ} (counted : canary ≡ canary_of m) (rounded : from ≡ (at - class * region + size - 1) / size) where
+    abbrev among : ℕ → Bool
+    among = is_hit_in canary (lent_bytes h class region p.slots size) (take (p.end - p.start) (drop p.start m)) p.slots size
+
+    same : {slot : ℕ} → slot ≡ first among from (p.slots - from) → slot ≡ first (in_class G m h class) from (slots G class - from)
+    same e = rw (lent_slots, counted, part_bitmap G class of m, k, s) at e
 
     rounds : from ≡ (at - class * G.region + slot_size G class - 1) / slot_size G class
     rounds = rw (r, s) at rounded
 
-    pub found_hit : slot < count → class * region + slot * size ≡ first (is_hit G m h) at (suc (at / G.region) * G.region - at)
-    found_hit l = rw (← cls, r, s) (region_hit G m h class at begins ends (rw s at near.some) rounds among (rw k at l))
+    pub found_hit : {slot : ℕ} → Some slot ≡ first_within among from p.slots
+        → Some (class * region + slot * size) ≡ first_within (is_hit G m h) at (suc (at / G.region) * G.region)
+    found_hit {slot} e =
+        let (found, l) = found_at among from p.slots e in
+        is_found (is_hit G m h) at (suc (at / G.region) * G.region)
+        (rw (← cls, r, s) (region_hit G m h class at begins ends (rw s at near.some) rounds (same found) (rw k at l)))
+        (in_region l)
 
-    pub found_none : count ≤ slot → class * region + region ≡ first (is_hit G m h) at (suc (at / G.region) * G.region - at)
-    found_none l =
-        let end : suc class * G.region ≡ class * G.region + G.region = suc-mul class G.region in
-        rw (← cls, r) (sym end ∙ region_none G m h class at begins ends (rw s at near.some) rounds among (rw k at l))
+    pub found_none : None ≡ first_within among from p.slots → None ≡ first_within (is_hit G m h) at (suc (at / G.region) * G.region)
+    found_none e =
+        let over = nowhere_before among from p.slots e in
+        let end : ℕ = suc (at / G.region) * G.region in
+        let none : end ≡ first (is_hit G m h) at (end - at) =
+        rw (← cls) (region_none G m h class at begins ends (rw s at near.some) rounds (same refl) (omega (arith, over, k))) in
+        is_nowhere (is_hit G m h) at end none (le_refl end)

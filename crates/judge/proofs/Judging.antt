@@ -1,4 +1,5 @@
 -- Lengths and counts that are judged right, and what each way through comes to.
+use Rattle.std.specs.Prelude.{Ok, Err}
 use Prim.Native.Nat.{ℕ, ◌/◌, ◌≤◌, ◌<◌}
 use mathlib.Core.Path.{◌≡◌, refl, sym, subst, ◌∙◌}
 use mathlib.Core.Bool.{Bool, true, false}
@@ -15,31 +16,29 @@ use Rattle.geometry.specs.Layout.{classes, region_of, layout_of, slots, metadata
 use Rattle.geometry.proofs.Geometry.{laid}
 use Rattle.answer.specs.declared.Refusal.{Refusal}
 use Rattle.answer.specs.declared.Refusal.TheVariants.{HeapLength, MetadataLength, CorruptMetadata}
-use Rattle.judge.specs.declared.Judged.{Judged}
-use Rattle.judge.specs.declared.Judged.TheVariants.{Laid, Unfit}
 use Rattle.metadata.specs.Metadata.{count_of}
-use Rattle.judge.specs.Judge.{lengths, Fits, is_over, any_over, admit}
+use Rattle.judge.specs.Judge.{lengths, Fits, is_over, any_over, admit, Judged}
 
-unfit_laid : {r : Refusal} {G : Layout} → Unfit r ≡ Laid G → ⊥
+unfit_laid : {r : Refusal} {G : Layout} → ◌≡◌ {A = Judged} (Err r) (Ok G) → ⊥
 unfit_laid e = let z : ◌≡◌ {A = ℕ} 0 1 = cc in omega arith
 
-laid_same : {F G : Layout} → Laid F ≡ Laid G → F ≡ G
+laid_same : {F G : Layout} → ◌≡◌ {A = Judged} (Ok F) (Ok G) → F ≡ G
 laid_same e = cc
 
 module _ (n k : ℕ) where
   -- no heap has this length
-  pub no_heap : region_of n ≡ 0 → lengths n k ≡ Unfit HeapLength
+  pub no_heap : region_of n ≡ 0 → lengths n k ≡ Err HeapLength
   unfolding lengths
   no_heap e = rw (eq-eqb (region_of n) 0 e)
 
   module _ (some : region_of n ≡ 0 → ⊥) where
     -- the metadata is not as long as the heap's
-    pub other_length : (k ≡ metadata_length (layout_of n) → ⊥) → lengths n k ≡ Unfit MetadataLength
+    pub other_length : (k ≡ metadata_length (layout_of n) → ⊥) → lengths n k ≡ Err MetadataLength
     unfolding lengths
     other_length e = rw (ne_eqb (region_of n) 0 some, ne_eqb k (metadata_length (layout_of n)) e)
 
     -- the lengths are right
-    pub right_lengths : k ≡ metadata_length (layout_of n) → lengths n k ≡ Laid (layout_of n)
+    pub right_lengths : k ≡ metadata_length (layout_of n) → lengths n k ≡ Ok (layout_of n)
     unfolding lengths
     right_lengths e = rw (ne_eqb (region_of n) 0 some, eq-eqb k (metadata_length (layout_of n)) e)
 
@@ -47,13 +46,13 @@ module _ (n k : ℕ) where
     fits e = record { small = (laid n).small; heap = (laid n).whole some; metadata = e }
 
   -- a layout that was found is the heap's, and all fits it
-  pub laid_fits : {G : Layout} → lengths n k ≡ Laid G → (G ≡ layout_of n) × Fits G n k
+  pub laid_fits : {G : Layout} → lengths n k ≡ Ok G → (G ≡ layout_of n) × Fits G n k
   unfolding lengths
   laid_fits {G} e = go (eqb (region_of n) 0) (eqb k (metadata_length (layout_of n))) refl refl
     where
       go : (s t : Bool) → eqb (region_of n) 0 ≡ s → eqb k (metadata_length (layout_of n)) ≡ t → (G ≡ layout_of n) × Fits G n k
-      go true t p q = let no : Unfit HeapLength ≡ Laid G = rw p at e in absurd (unfit_laid no)
-      go false false p q = let no : Unfit MetadataLength ≡ Laid G = rw (p, q) at e in absurd (unfit_laid no)
+      go true t p q = let no : Err HeapLength ≡ Ok G = rw p at e in absurd (unfit_laid no)
+      go false false p q = let no : Err MetadataLength ≡ Ok G = rw (p, q) at e in absurd (unfit_laid no)
       go false true p q =
           let same : layout_of n ≡ G = laid_same (rw (p, q) at e) in
           (sym same, subst (λ L. Fits L n k) same (fits (eqb-false (region_of n) 0 p) (eqb-true k (metadata_length (layout_of n)) q)))
@@ -72,31 +71,31 @@ none_over G m few = le-ltb c classes (elim (dec_lt c classes) [
 
 -- what each way through an admission comes to
 module _ (n : ℕ) (m : List ℕ) where
-  pub admit_unfit : {r : Refusal} → lengths n (length m) ≡ Unfit r → admit n m ≡ Unfit r
+  pub admit_unfit : {r : Refusal} → lengths n (length m) ≡ Err r → admit n m ≡ Err r
   unfolding admit
   admit_unfit e = rw e
 
-  module _ {G : Layout} (laid : lengths n (length m) ≡ Laid G) where
-    pub admit_over : any_over G m ≡ true → admit n m ≡ Unfit CorruptMetadata
+  module _ {G : Layout} (laid : lengths n (length m) ≡ Ok G) where
+    pub admit_over : any_over G m ≡ true → admit n m ≡ Err CorruptMetadata
     unfolding admit
     admit_over e = rw (laid, e)
 
-    pub admit_laid : any_over G m ≡ false → admit n m ≡ Laid G
+    pub admit_laid : any_over G m ≡ false → admit n m ≡ Ok G
     unfolding admit
     admit_laid e = rw (laid, e)
 
   -- the layout that a request goes by is that of the lengths
-  pub admitted_laid : {G : Layout} → admit n m ≡ Laid G → lengths n (length m) ≡ Laid G
+  pub admitted_laid : {G : Layout} → admit n m ≡ Ok G → lengths n (length m) ≡ Ok G
   admitted_laid {G} e = go (lengths n (length m)) refl
     where
-      go : (j : Judged) → lengths n (length m) ≡ j → lengths n (length m) ≡ Laid G
-      go (Unfit r) f = absurd (unfit_laid (sym (admit_unfit f) ∙ e))
-      go (Laid F) f = counted (any_over F m) refl
+      go : (j : Judged) → lengths n (length m) ≡ j → lengths n (length m) ≡ Ok G
+      go (Err r) f = absurd (unfit_laid (sym (admit_unfit f) ∙ e))
+      go (Ok F) f = counted (any_over F m) refl
         where
-          counted : (t : Bool) → any_over F m ≡ t → lengths n (length m) ≡ Laid G
+          counted : (t : Bool) → any_over F m ≡ t → lengths n (length m) ≡ Ok G
           counted true o = absurd (unfit_laid (sym (admit_over f o) ∙ e))
           counted false o = f ∙ sym (admit_laid f o) ∙ e
 
   -- it is the heap's, and all fits it
-  pub admit_fits : {G : Layout} → admit n m ≡ Laid G → (G ≡ layout_of n) × Fits G n (length m)
+  pub admit_fits : {G : Layout} → admit n m ≡ Ok G → (G ≡ layout_of n) × Fits G n (length m)
   admit_fits e = laid_fits n (length m) (admitted_laid e)

@@ -7,57 +7,47 @@ ghost use Rattle.judge.specs.Judge.{lengths, any_over, admit};
 
 use answer::Refusal;
 use geometry::{CLASSES, COUNTS, HEADER, Layout, Plan};
-use numbers::wide;
 
-// What the lengths of a heap and its metadata come to.
-#[derive(Clone, Copy)]
-pub enum Judged {
-    Laid(Layout),
-    Unfit(Refusal),
-}
-
-pub fn lengths(heap_len: usize, metadata_len: usize) -> Judged
+// The layout that the lengths of a heap and its metadata come to.
+#[tactic(auto, unfolding(crate::specs::Judge::lengths))]
+pub fn lengths(heap_len: usize, metadata_len: usize) -> Result<Layout, Refusal>
     ensures { result ≡ lengths heap_len metadata_len }
 {
     let plan = Plan::of(heap_len);
     let layout = plan.layout;
     if layout.region == 0 {
-        return Judged::Unfit(Refusal::HeapLength);
+        return Err(Refusal::HeapLength);
     }
     if metadata_len != plan.metadata {
-        return Judged::Unfit(Refusal::MetadataLength);
+        return Err(Refusal::MetadataLength);
     }
-    Judged::Laid(layout)
+    Ok(layout)
 }
 
 // Whether a class counts more live objects than half of its slots. The fields are lent as a part whose length the
 // compiler knows, so that it tests no place.
+#[tactic(auto, using(crate::proofs::Admitting::over_none))]
 fn any_over(metadata: &[u8], layout: Layout) -> bool
     requires { header ≤ length metadata.now }
     ensures { result ≡ any_over layout metadata.now }
 {
-    let mut class: usize = 0;
-    while class < CLASSES {
+    for class in 0..CLASSES {
         let count = words::get(&metadata[0..HEADER], COUNTS + 4 * class);
-        if layout.slots(class) / 2 < wide(count) {
+        if layout.slots(class) / 2 < count as usize {
             return true;
         }
-        class += 1;
     }
     false
 }
 
 // What requests and inspections go by.
-pub fn admit(heap_len: usize, metadata: &[u8]) -> Judged
+#[tactic(auto, unfolding(crate::specs::Judge::admit))]
+pub fn admit(heap_len: usize, metadata: &[u8]) -> Result<Layout, Refusal>
     ensures { result ≡ admit heap_len metadata.now }
 {
-    match lengths(heap_len, metadata.len()) {
-        Judged::Unfit(refusal) => Judged::Unfit(refusal),
-        Judged::Laid(layout) => {
-            if any_over(metadata, layout) {
-                return Judged::Unfit(Refusal::CorruptMetadata);
-            }
-            Judged::Laid(layout)
-        }
+    let layout = lengths(heap_len, metadata.len())?;
+    if any_over(metadata, layout) {
+        return Err(Refusal::CorruptMetadata);
     }
+    Ok(layout)
 }

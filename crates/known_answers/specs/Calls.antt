@@ -3,7 +3,7 @@ use Rattle.std.specs.Prelude.{ℕ, ◌*◌, List, [], ◌∷◌, ◌++◌, repli
 use Rattle.mwc.specs.declared.Generator.{Generator}
 use Rattle.geometry.specs.Layout.{layout_of, classes, metadata_length}
 use Rattle.request.specs.Parse.{request_bytes}
-use Rattle.answer.specs.Reply.{Reply}
+use Rattle.answer.specs.declared.Reply.{Reply}
 use Rattle.view.specs.declared.Place.{Place}
 use Rattle.view.specs.declared.Place.TheVariants.{Heap, Page}
 use Rattle.metadata.specs.Metadata.{with_generator}

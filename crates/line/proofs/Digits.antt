@@ -1,25 +1,10 @@
--- What `more` comes to at a digit, and a word read digit by digit.
-use Prim.Native.Nat.{ℕ, ◌+◌, ◌-◌, ◌*◌, ◌≤◌, ◌<◌, min}
-use mathlib.Core.Path.{◌≡◌, ◌∙◌}
-use mathlib.Core.List.{List}
-use native.Mathlib.Numerals.{add-one}
-use borrow.Author.Tests.{le-leb, ne_eqb}
-use lib.ListN.{length, get_or, drop, drop_of_length-le}
-use lib.Seq.{drop-cons}
-use Rattle.line.specs.Number.{limit, more, with_digits, number}
+-- A word read digit by digit.
+use Rattle.std.proofs.Common.{◌≡◌, ℕ, ◌+◌, ◌<◌, List, length, get_or, drop, add-one, drop-cons}
+use Rattle.std.specs.Option.{option_and_then}
+use Rattle.line.specs.Number.{more, with_digits}
 
-pub more_digit : (n b : ℕ) → 48 ≤ b → b ≤ 57 → more n b ≡ min limit (10 * n + (b - 48))
-unfolding more
-more_digit n b l h = rw (le-leb 48 b l, le-leb b 57 h)
-
-module _ (word : List ℕ) (n i : ℕ) (read : with_digits 0 word ≡ with_digits n (drop i word)) where
-  -- a digit more
-  pub digits_more : {next : ℕ} → i < length word → next ≡ more n (get_or word i 0)
-      → with_digits 0 word ≡ with_digits next (drop (i + 1) word)
-  unfolding with_digits
-  digits_more h e = read ∙ rw (add-one, drop-cons word i 0 h, e, with_digits)
-
-  -- all of them
-  pub digits_all : (length word ≡ 0 → ⊥) → length word ≤ i → n ≡ number word
-  unfolding with_digits number
-  digits_all h l = rw (ne_eqb (length word) 0 h, read, drop_of_length-le word l)
+-- a digit more, or none
+pub digits_more : (word : List ℕ) (n i : ℕ) → i < length word
+    → with_digits n (drop i word) ≡ option_and_then (λ m. with_digits m (drop (i + 1) word)) (more n (get_or word i 0))
+unfolding with_digits
+digits_more word n i h = rw (add-one, drop-cons word i 0 h, with_digits)

@@ -10,33 +10,30 @@ use slices::between;
 fn is_blank(byte: u8) -> bool
     ensures { result ≡ is_blank byte }
 {
-    if byte == b'\t' {
-        return true;
-    }
-    byte == b' '
+    matches!(byte, b'\t' | b' ')
 }
 
-// The first place whose byte is a blank, or is none, as asked; the length where there is no such place.
+// The first place whose byte is a blank, or is none, as asked; the length where there is no such place: a word ends
+// there, as the definition `seek` has it.
 fn seek(text: &[u8], from: usize, blank: bool) -> usize
     requires { from ≤ length text.now }
-    ensures value { result ≡ seek text.now from blank }
-    ensures lower_bound { (from ≤ result) × (result ≤ length text.now) }
+    ensures place { result ≡ seek text.now from blank }
+    ensures within { (from ≤ result) × (result ≤ length text.now) }
 {
-    let mut at = from;
-    while at < text.len() {
+    for at in from..text.len() {
         if is_blank(text[at]) == blank {
             return at;
         }
-        at += 1;
     }
-    at
+    text.len()
 }
 
 // Where the next word lies.
+#[tactic(auto, unfolding(crate::specs::Text::next_word))]
 pub fn next(text: &[u8], from: usize) -> Word
     requires { from ≤ length text.now }
-    ensures value { result ≡ next_word text.now from }
-    ensures start_le_end { (result.start ≤ result.end) × (result.end ≤ length text.now) }
+    ensures place { result ≡ next_word text.now from }
+    ensures within { (result.start ≤ result.end) × (result.end ≤ length text.now) }
 {
     let start = seek(text, from, false);
     let end = seek(text, start, true);

@@ -4,11 +4,9 @@
 mod finding;
 mod number;
 
-ghost use Rattle.std.specs.Prelude.{◌≡◌, [], ◌<◌, ◌≤◌, length, get_or};
-ghost use Rattle.alike.specs.Alike.{alike};
+ghost use Rattle.std.specs.Prelude.{◌≡◌, ◌≤◌, length};
 ghost use Rattle.line.specs.Text.{trimmed_end};
-ghost use Rattle.line.specs.Number.{limit};
-ghost use Rattle.line.specs.Line.{names, operation_count, operation_of, request, counted, operands};
+ghost use Rattle.line.specs.Line.{operation_of, number_at, request, counted, operands};
 ghost use Rattle.line.specs.Line.{statement, read_text, read_line};
 
 use alike::same;
@@ -16,99 +14,103 @@ pub use finding::word_bytes;
 use request::has_count;
 
 // Where a word lies in its line.
-#[derive(Clone, Copy)]
+#[derive(Clone, Copy, PartialEq, Eq, Debug)]
 pub struct Word {
     pub start: usize,
     pub end: usize,
 }
 
-// What a line asks for. A bad line has the word that stands where another was expected, empty where none is left.
-#[derive(Clone, Copy)]
-pub enum Line {
-    Request {
-        operation: u32,
-        argument: u32,
-        count: u32,
-    },
-    Nothing,
-    BadOperation(Word),
-    BadNumber(Word),
+// The request that a line asks for. Its operation is a number, since `request::encode` takes any and the definition
+// `names` counts by it.
+#[derive(Clone, Copy, PartialEq, Eq, Debug)]
+pub struct Asked {
+    pub operation: u32,
+    pub argument: u32,
+    pub count: u32,
+}
+
+// What is wrong with a line. A word stands where another was expected, and is empty where none is left.
+#[derive(Clone, Copy, PartialEq, Eq, Debug)]
+pub enum BadLine {
+    Operation(Word),
+    Number(Word),
     TrailingText(Word),
     TooLong,
 }
 
+// What a line asks for, which may be nothing.
+pub type Read = Result<Option<Asked>, BadLine>;
+
 // How many bytes a line may have, its end not counted.
 pub const LONGEST: usize = 255;
 
-const OPERATIONS: u32 = 7;
-
-fn is_name(word: &[u8], operation: u32) -> bool
-    requires { operation < operation_count }
-    ensures { result ≡ alike word.now (get_or names operation []) }
+// The operation that a word names, if it names one. Name by name: a table searched by `position` takes a fifth more
+// instructions for a line.
+#[tactic(auto, unfolding(crate::specs::Line::operation_of, alike::specs::Text::bytes))]
+fn operation_of(word: &[u8]) -> Option<u32>
+    ensures { result ≡ operation_of word.now }
 {
-    match operation {
-        0 => same(word, b"place"),
-        1 => same(word, b"free"),
-        2 => same(word, b"measure"),
-        3 => same(word, b"copy"),
-        4 => same(word, b"text"),
-        5 => same(word, b"counted"),
-        _ => same(word, b"read"),
+    match word {
+        _ if same(word, b"place") => Some(0),
+        _ if same(word, b"free") => Some(1),
+        _ if same(word, b"measure") => Some(2),
+        _ if same(word, b"copy") => Some(3),
+        _ if same(word, b"text") => Some(4),
+        _ if same(word, b"counted") => Some(5),
+        _ if same(word, b"read") => Some(6),
+        _ => None,
     }
 }
 
-fn operation_of(word: &[u8]) -> u32
-    ensures { result ≡ operation_of word.now }
+// The number that a word of a text spells.
+fn number_at(text: &[u8], word: Word) -> Result<u32, BadLine>
+    ensures { result ≡ number_at text.now word }
 {
-    let mut operation: u32 = 0;
-    while operation < OPERATIONS {
-        if is_name(word, operation) {
-            return operation;
-        }
-        operation += 1;
-    }
-    operation
+    number::of(word_bytes(text, word)).ok_or(BadLine::Number(word))
 }
 
 // The request, where no word is left.
-fn request(text: &[u8], from: usize, operation: u32, argument: u64, count: u64) -> Line
-    requires { (from ≤ length text.now) × (argument < limit) × (count < limit) }
+#[tactic(auto, unfolding(crate::specs::Line::request))]
+fn request(
+    text: &[u8],
+    from: usize,
+    operation: u32,
+    argument: u32,
+    count: u32,
+) -> Result<Asked, BadLine>
+    requires { from ≤ length text.now }
     ensures { result ≡ request text.now from operation argument count }
 {
     let word = finding::next(text, from);
     if word.start != text.len() {
-        return Line::TrailingText(word);
+        return Err(BadLine::TrailingText(word));
     }
-    Line::Request {
+    Ok(Asked {
         operation,
-        argument: argument as u32,
-        count: count as u32,
-    }
+        argument,
+        count,
+    })
 }
 
 // The second number.
-fn counted(text: &[u8], from: usize, operation: u32, argument: u64) -> Line
-    requires { (from ≤ length text.now) × (argument < limit) }
+#[tactic(auto, unfolding(crate::specs::Line::counted))]
+fn counted(text: &[u8], from: usize, operation: u32, argument: u32) -> Result<Asked, BadLine>
+    requires { from ≤ length text.now }
     ensures { result ≡ counted text.now from operation argument }
 {
     let word = finding::next(text, from);
-    let count = number::of(finding::word_bytes(text, word));
-    if number::LIMIT <= count {
-        return Line::BadNumber(word);
-    }
+    let count = number_at(text, word)?;
     request(text, word.end, operation, argument, count)
 }
 
 // The numbers after the operation's name.
-fn operands(text: &[u8], from: usize, operation: u32) -> Line
+#[tactic(auto, unfolding(crate::specs::Line::operands))]
+fn operands(text: &[u8], from: usize, operation: u32) -> Result<Asked, BadLine>
     requires { from ≤ length text.now }
     ensures { result ≡ operands text.now from operation }
 {
     let word = finding::next(text, from);
-    let argument = number::of(finding::word_bytes(text, word));
-    if number::LIMIT <= argument {
-        return Line::BadNumber(word);
-    }
+    let argument = number_at(text, word)?;
     if has_count(operation) {
         return counted(text, word.end, operation, argument);
     }
@@ -116,47 +118,44 @@ fn operands(text: &[u8], from: usize, operation: u32) -> Line
 }
 
 // A line without its comment.
-fn statement(text: &[u8]) -> Line
+#[tactic(auto, unfolding(crate::specs::Line::statement))]
+fn statement(text: &[u8]) -> Read
     ensures { result ≡ statement text.now }
 {
     let word = finding::next(text, 0);
     if word.start == text.len() {
-        return Line::Nothing;
+        return Ok(None);
     }
-    let operation = operation_of(finding::word_bytes(text, word));
-    if operation == OPERATIONS {
-        return Line::BadOperation(word);
-    }
-    operands(text, word.end, operation)
+    let operation = operation_of(word_bytes(text, word)).ok_or(BadLine::Operation(word))?;
+    let asked = operands(text, word.end, operation)?;
+    Ok(Some(asked))
 }
 
-// Where a line ends without the carriage return that may stand before its line feed.
+// Where a line ends without the carriage return that may stand before its line feed. A place, as the definition
+// `trimmed_end` has it, and not what `strip_suffix` gives.
 #[tactic(auto, unfolding(crate::specs::Text::trimmed_end))]
 fn trimmed_end(line: &[u8]) -> usize
     ensures { (result ≡ trimmed_end line.now) × (result ≤ length line.now) }
 {
-    if line.len() == 0 {
-        return 0;
+    match line.last() {
+        Some(b'\r') => line.len() - 1,
+        _ => line.len(),
     }
-    let last = line.len() - 1;
-    if line[last] == b'\r' {
-        return last;
-    }
-    line.len()
 }
 
-fn read_text(line: &[u8]) -> Line
+#[tactic(auto, using(crate::proofs::Reading::long_text, crate::proofs::Reading::short_text))]
+fn read_text(line: &[u8]) -> Read
     ensures { result ≡ read_text line.now }
 {
     if LONGEST < line.len() {
-        return Line::TooLong;
+        return Err(BadLine::TooLong);
     }
     let end = scan::find(line, 0, line.len(), b'#');
     statement(&line[0..end])
 }
 
 // What any line asks for; it is given without its line feed.
-pub fn read(line: &[u8]) -> Line
+pub fn read(line: &[u8]) -> Read
     ensures { result ≡ read_line line.now }
 {
     let end = trimmed_end(line);

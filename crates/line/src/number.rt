@@ -1,36 +1,30 @@
 // Numbers of 32 bits in decimal.
-ghost use Rattle.std.specs.Prelude.{◌≡◌, ◌≤◌};
-ghost use Rattle.line.specs.Number.{limit, more, number};
+ghost use Rattle.std.specs.Prelude.{◌≡◌};
+ghost use Rattle.line.specs.Number.{more, number};
 
-// The first number that is too large; it stands for every word that is no number.
-pub const LIMIT: u64 = 4294967296;
-
-fn more(n: u64, byte: u8) -> u64
-    requires { n ≤ limit }
-    ensures { (result ≡ more n byte) × (result ≤ limit) }
+// A number with one more digit.
+#[tactic(auto, unfolding(crate::specs::Number::more))]
+fn more(n: u32, byte: u8) -> Option<u32>
+    ensures { result ≡ more n byte }
 {
-    if byte < b'0' {
-        return LIMIT;
+    if !byte.is_ascii_digit() {
+        return None;
     }
-    if b'9' < byte {
-        return LIMIT;
-    }
-    let next = 10 * n + (byte - b'0') as u64;
-    if next < LIMIT { next } else { LIMIT }
+    let tens = n.checked_mul(10)?;
+    tens.checked_add((byte - b'0') as u32)
 }
 
-// The number that a word spells.
-pub fn of(word: &[u8]) -> u64
+// The number that a word spells, if it spells one.
+#[tactic(auto, using(crate::proofs::Digits::digits_more), unfolding(crate::specs::Number::with_digits))]
+pub fn of(word: &[u8]) -> Option<u32>
     ensures { result ≡ number word.now }
 {
-    if word.len() == 0 {
-        return LIMIT;
+    if word.is_empty() {
+        return None;
     }
-    let mut n: u64 = 0;
-    let mut i: usize = 0;
-    while i < word.len() {
-        n = more(n, word[i]);
-        i += 1;
+    let mut n: u32 = 0;
+    for byte in word {
+        n = more(n, *byte)?;
     }
-    n
+    Some(n)
 }

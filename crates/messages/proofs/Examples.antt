@@ -7,9 +7,9 @@ use Rattle.search.specs.First.{first}
 use Rattle.alike.specs.Alike.{alike}
 use Rattle.scan.specs.Bytes.{index_of, index_after}
 use Rattle.line.specs.Text.{bytes, is_blank, next_word, trimmed_end}
-use Rattle.line.specs.Number.{more, with_digits, number}
+use Rattle.line.specs.Number.{more, with_digits}
 use Rattle.line.specs.Line.{operation_of, request, counted, operands, statement, read_text, read_line}
-use Rattle.messages.specs.Message.{found, said, expected_of, found_text, message_of, expected_room, found_room}
+use Rattle.messages.specs.Message.{found, said, expected, found_text, message_of, expected_room, found_room}
 use Rattle.quoting.specs.Quoted.{shown_byte, quoted}
 use Rattle.decimal.specs.Decimal.{decimal_in}
 
@@ -26,12 +26,12 @@ bad_lines_named : map (λ line. said_of 10 (bytes line))
     ∷ "line 10: expected a number from 0 to 4294967295, found \"4294967296\"\n"
     ∷ "line 10: expected nothing after the numbers, found \"two\"\n"
     ∷ [])
-unfolding bytes first alike index_of index_after is_blank next_word trimmed_end more with_digits number operation_of
-    request counted operands statement read_text expected_of found_text found quoted shown_byte said decimal_in
+unfolding bytes first alike index_of index_after is_blank next_word trimmed_end more with_digits operation_of
+    request counted operands statement read_text expected found_text found quoted shown_byte said decimal_in
 bad_lines_named = refl
 
 long_line_named : said_of 1 (replicate 256 32) ≡ bytes "line 1: expected at most 255 bytes, found more\n"
-unfolding bytes trimmed_end read_text expected_of found_text said decimal_in
+unfolding bytes trimmed_end read_text expected found_text said decimal_in
 long_line_named = refl
 
 -- 24 bytes of a word are shown; a longer one has dots, and a byte that is not printable is a question mark

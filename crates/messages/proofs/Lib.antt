@@ -1,4 +1,3 @@
 -- Laws of texts put one after another, and of what is said of a line.
 pub mod Examples
 pub mod Putting
-pub mod Silence

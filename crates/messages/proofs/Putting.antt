@@ -1,10 +1,10 @@
 -- Texts put one after another, and what is found.
 use Prim.Native.Nat.{ℕ, ◌+◌, ◌≤◌}
-use mathlib.Core.Path.{◌≡◌, sym}
-use mathlib.Core.List.{List, [], ◌++◌}
+use mathlib.Core.Path.{◌≡◌}
+use mathlib.Core.List.{List, ◌++◌}
 use native.Mathlib.Omega.{arith}
 use borrow.Author.Tests.{eq-eqb, ne_eqb}
-use lib.ListN.{length, length-append, take-append-drop}
+use lib.ListN.{length, length-append}
 use Rattle.line.specs.Text.{bytes}
 use Rattle.writing.proofs.Writing.{Wrote, overwrite_length, wrote_then, wrote_length}
 use Rattle.messages.specs.Put.{Put}
@@ -28,9 +28,6 @@ three_put {xs} {mid} {ys = ys} {at = at} first second third room =
     let here = first.place in
     let size : length mid ≡ length xs = rw first.bytes (overwrite_length xs at ys (omega arith)) in
     two_put first (two_put second third (omega arith)) (rw length-append (omega arith))
-
-pub nothing_put : {at : ℕ} {out : List ℕ} → Put out at [] at out
-nothing_put {at} {out} = record { place = omega arith; bytes = sym (take-append-drop at out) }
 
 module _ (word : List ℕ) where
   pub found_none : length word ≡ 0 → found word ≡ bytes "the end of the line\n"

@@ -139,8 +139,8 @@ computed_w =
 
 -- what the code answers once it has tested z, and then w
 pub unusable_by_z : (g : Generator) {t : Bool} → g.z < 2 ^ 32 → t ≡ eqb (g.z % modulus 36969) 0 → t ≡ true
-    → true ≡ is_unusable g
-unusable_by_z g small e taken = rw (← remainder_tells computed_z g.z small, ← e, taken)
+    → t ≡ is_unusable g
+unusable_by_z g small e taken = taken ∙ rw (← remainder_tells computed_z g.z small, ← e, taken)
 
 pub unusable_by_w : (g : Generator) {t u : Bool} → g.z < 2 ^ 32 → g.w < 2 ^ 32
     → t ≡ eqb (g.z % modulus 36969) 0 → t ≡ false → u ≡ eqb (g.w % modulus 18000) 0 → u ≡ is_unusable g

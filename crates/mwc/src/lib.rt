@@ -46,16 +46,14 @@ impl Generator {
     pub fn draw(self) -> u32
         ensures { result ≡ drawn self }
     {
-        std::num::wrapping_add_u32(self.z % 65536 * 65536, self.w)
+        (self.z % 65536 * 65536).wrapping_add(self.w)
     }
 
     // Whether no heap is opened with these halves.
+    #[tactic(auto, using(crate::proofs::Freezing::unusable_by_z, crate::proofs::Freezing::unusable_by_w))]
     pub fn is_unusable(self) -> bool
         ensures { result ≡ is_unusable self }
     {
-        if is_frozen(Z_MULTIPLIER, self.z) {
-            return true;
-        }
-        is_frozen(W_MULTIPLIER, self.w)
+        is_frozen(Z_MULTIPLIER, self.z) || is_frozen(W_MULTIPLIER, self.w)
     }
 }

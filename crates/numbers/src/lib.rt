@@ -1,49 +1,39 @@
 // Arithmetic on machine numbers as the definitions have it: every function has an answer for all numbers.
 #![tactic(auto)]
 
-ghost use Rattle.std.specs.Prelude.{◌≡◌, min, ◌/◌, ◌%◌, ◌<◌, ◌≤◌};
-
-pub fn wide(x: u32) -> usize
-    ensures { (result ≡ x) × (result < 4294967296) }
-{
-    x as usize
-}
-
-pub fn least(a: usize, b: usize) -> usize
-    ensures { result ≡ min a b }
-{
-    if a < b { a } else { b }
-}
+ghost use Rattle.std.specs.Prelude.{◌≡◌, ◌/◌, ◌%◌, ◌≤◌};
 
 // 0 where b is.
 pub fn quotient(a: usize, b: usize) -> usize
     ensures { (result ≡ a / b) × (result ≤ a) }
 {
-    if b == 0 { 0 } else { a / b }
+    a.checked_div(b).unwrap_or(0)
 }
 
 // a where b is 0.
 pub fn remainder(a: usize, b: usize) -> usize
     ensures { result ≡ a % b }
 {
-    if b == 0 { a } else { a % b }
+    a.checked_rem(b).unwrap_or(a)
 }
 
-// The same where b is most often a power of two: then nothing is divided.
+// The same where b is most often a power of two: then nothing is divided. Whether it is one is not left to
+// `is_power_of_two`: std has no law that leads from its answer to a power.
 pub fn power_quotient(a: usize, b: usize) -> usize
     ensures { (result ≡ a / b) × (result ≤ a) }
 {
-    let places = usize::trailing_zeros(b) % 64;
+    let places = b.trailing_zeros() % 64;
     if b == 1 << places {
         return a >> places;
     }
     quotient(a, b)
 }
 
+#[tactic(auto, using(crate::proofs::Power::masked))]
 pub fn power_remainder(a: usize, b: usize) -> usize
     ensures { result ≡ a % b }
 {
-    if b == 1 << usize::trailing_zeros(b) % 64 {
+    if b == 1 << b.trailing_zeros() % 64 {
         return a & b - 1;
     }
     remainder(a, b)

@@ -5,7 +5,7 @@ ghost use Rattle.std.specs.Prelude.{◌≡◌};
 ghost use Rattle.probe.specs.Probe.{draws, probe};
 
 use mwc::Generator;
-use numbers::{power_remainder, wide};
+use numbers::power_remainder;
 
 const DRAWS: usize = 32;
 
@@ -22,17 +22,15 @@ pub fn find(bitmap: &[u8], slots: usize, start: Generator) -> Found
 {
     let mut generator = start;
     let mut last: usize = 0;
-    let mut left: usize = DRAWS;
-    while 0 < left {
+    for _ in 0..DRAWS {
         generator = generator.advance();
-        last = power_remainder(wide(generator.draw()), slots);
+        last = power_remainder(generator.draw() as usize, slots);
         if !bitmap::is_set(bitmap, slots, last) {
             return Found {
                 slot: last,
                 generator,
             };
         }
-        left -= 1;
     }
     Found {
         slot: bitmap::next_clear(bitmap, slots, last),

@@ -26,10 +26,11 @@ fn alone(count: usize, own: usize, choice: Choice) -> Choice
     requires { own < count }
     ensures { result ≡ alone_of count own choice }
 {
-    if count - own != 1 {
-        return Choice::Unknown(own + 1);
+    if count - own == 1 {
+        choice
+    } else {
+        Choice::Unknown(own + 1)
     }
-    choice
 }
 
 // `count` words, of which those from `own` on are the user's.
@@ -38,15 +39,14 @@ fn chosen(count: usize, own: usize, argument: &[u8]) -> Choice
     ensures { result ≡ choice_of count own argument.now }
 {
     if count <= own {
-        return Choice::Run;
+        Choice::Run
+    } else if alike::same(argument, b"--help") {
+        alone(count, own, Choice::Help)
+    } else if alike::same(argument, b"--version") {
+        alone(count, own, Choice::Version)
+    } else {
+        Choice::Unknown(own)
     }
-    if alike::same(argument, b"--help") {
-        return alone(count, own, Choice::Help);
-    }
-    if alike::same(argument, b"--version") {
-        return alone(count, own, Choice::Version);
-    }
-    Choice::Unknown(own)
 }
 
 // `count` words, the program's name first, and the two after it, each empty where there is none.
@@ -54,38 +54,40 @@ fn chosen(count: usize, own: usize, argument: &[u8]) -> Choice
 pub fn read(count: usize, first: &[u8], second: &[u8]) -> Asked
     ensures { result ≡ asked_of count first.now second.now }
 {
-    if alike::same(first, b"--status") {
-        let choice = chosen(count, 2, second);
-        return Asked {
-            launched: true,
-            choice,
-        };
-    }
-    let choice = chosen(count, 1, first);
-    Asked {
-        launched: false,
-        choice,
-    }
+    let launched = alike::same(first, b"--status");
+    let choice = if launched {
+        chosen(count, 2, second)
+    } else {
+        chosen(count, 1, first)
+    };
+    Asked { launched, choice }
 }
 
 // How many words there are, the program's name among them.
 pub fn count<R: Env>(rt: &R) -> usize {
-    let mut nothing = [0u8; 0];
-    for word in 0..usize::MAX {
-        match rt.arg(word, &mut nothing) {
-            Err(FillError::NotPresent) => return word,
-            _ => {}
-        }
-    }
-    usize::MAX
+    (0..usize::MAX)
+        .find(|word| matches!(rt.arg(*word, &mut []), Err(FillError::NotPresent)))
+        .unwrap_or(usize::MAX)
 }
 
-// Reads a word, and answers how many bytes it has: none where there is no such word, or it is longer than the buffer.
+// Reads a word, and answers how many bytes it has: none where there is no such word, or it is longer than the buffer,
+// since neither is a word that is known.
 pub fn word<R: Env>(rt: &R, word: usize, into: &mut [u8]) -> usize
     ensures { result ≤ length into.new }
 {
-    match rt.arg(word, into) {
-        Ok(len) => len,
-        Err(_) => 0,
+    rt.arg(word, into).unwrap_or(0)
+}
+
+// More bytes than any word that is known has.
+const WORD: usize = 16;
+
+impl Asked {
+    // What the program's own words ask for.
+    pub(crate) fn of<R: Env>(rt: &R) -> Asked {
+        let mut first = [0u8; WORD];
+        let mut second = [0u8; WORD];
+        let first_len = word(rt, 1, &mut first);
+        let second_len = word(rt, 2, &mut second);
+        read(count(rt), &first[0..first_len], &second[0..second_len])
     }
 }

@@ -7,26 +7,45 @@
 
 pub mod arguments;
 
-ghost use Rattle.std.specs.Prelude.{◌≡◌, true, false, cond, ◌<◌, ◌≤◌, eqb, length, take};
-ghost use Rattle.std.specs.Io.KnownBytes.{Appends, Consumes, IsAtEnd};
+ghost use Rattle.std.specs.Prelude.{◌≡◌, cond, eqb, length, take, IfOk, IsOk, MatchResult, OnOk, ◌≤◌, ◌<◌, ℕ, IsErr};
+ghost use Rattle.std.specs.Fn.{FnOnceReturnsAtMut};
+ghost use Rattle.std.specs.Io.KnownBytes.{Appends, Consumes, IsAtEnd, Keeps};
 ghost use Rattle.std.specs.Process.{exit_status};
-ghost use Rattle.program.specs.Asked.{argument_room};
-ghost use Rattle.program.specs.Got.{got_of};
+ghost use Rattle.program.specs.Status.{status_number};
+ghost use Rattle.program.specs.declared.Status.TheVariants.{Done};
+ghost use Rattle.program.specs.declared.arguments.Choice.TheVariants.{Run, Help, Version, Unknown};
 
+use arguments::{Asked, Choice};
 use std::env::{Env, FillError};
 use std::fmt::InlineText;
 use std::io;
 use std::io::{Read, Write};
 use std::process::ExitCode;
 
-pub const DONE: u8 = 0;
+// An input or an output failed, and standard error says so.
+#[derive(Clone, Copy, PartialEq, Eq, Debug)]
+pub struct Failed;
 
-pub const FAILED: u8 = 2;
+// What a program came to.
+#[derive(Clone, Copy, PartialEq, Eq, Debug)]
+pub enum Status {
+    Done = 0,
+    BadLines = 1,
+    Failed = 2,
+}
 
-// What a read came to.
-#[derive(Clone, Copy)]
+// The exit status.
+impl From<Status> for u8 {
+    ghost from_gives = { λ status n. n ≡ status_number status };
+
+    fn from(status: Status) -> u8 {
+        status as u8
+    }
+}
+
+// What a read brought.
+#[derive(Clone, Copy, PartialEq, Eq, Debug)]
 pub struct Got {
-    pub failed: bool,
     pub count: usize,
 }
 
@@ -41,7 +60,7 @@ impl Got {
 
 // Says on standard error that `place` failed, and why: in the system's words, without the error's number, which std
 // adds to them.
-fn fail<E: Write>(errors: &mut E, place: &[u8], error: io::Error) {
+fn fail<E: Write>(errors: &mut E, place: &[u8], error: io::Error) -> Failed {
     let text = InlineText::<256>::of(error);
     let words = text.as_str();
     let why = match words.split_once(" (os error ") {
@@ -52,98 +71,138 @@ fn fail<E: Write>(errors: &mut E, place: &[u8], error: io::Error) {
     let _ = errors.write_all(b": ");
     let _ = errors.write_all(why.as_bytes());
     let _ = errors.write_all(b"\n");
-}
-
-// What the answer to a read into the input comes to.
-#[tactic(auto, unfolding(crate::specs::Got::got_of))]
-fn told(answer: &io::Result<usize>, input: &[u8]) -> Got
-    ensures { result ≡ got_of answer.now (length input.now) }
-{
-    match answer {
-        Ok(count) => Got {
-            failed: false,
-            count: (*count).min(input.len()),
-        },
-        Err(_) => Got {
-            failed: true,
-            count: 0,
-        },
-    }
+    Failed
 }
 
 // Reads once, or says that `place` failed. How many bytes came, and which, the reader decides.
-#[tactic(auto, unfolding(crate::specs::Got::got_of))]
 pub fn read<R: Read, E: Write>(
     reader: &mut R,
     errors: &mut E,
     input: &mut [u8],
     place: &[u8],
-) -> Got
-    ensures in_bounds { (result.count ≤ length input.new) × (result.count ≡ cond result.failed 0 result.count) }
-    ensures taken { Consumes (R.remaining reader.old) (R.remaining reader.new) (take result.count input.new) }
-    ensures at_end { result.failed ≡ false → result.count ≡ 0 → 0 < length input.new
-        → IsAtEnd (R.remaining reader.new) }
+) -> Result<Got, Failed>
+    ensures in_bounds { IfOk result (λ got. got.count ≤ length input.new) }
+    ensures taken { MatchResult result
+        (λ got. Consumes (R.remaining reader.old) (R.remaining reader.new) (take got.count input.new))
+        (λ _. Keeps (R.remaining reader.old) (R.remaining reader.new)) }
+    ensures at_end { IfOk result (λ got. got.count ≡ 0 → 0 < length input.new
+        → IsAtEnd (R.remaining reader.new)) }
 {
-    let answer = reader.read(input);
-    let got = told(&answer, input);
-    if let Err(error) = answer {
-        fail(errors, place, error);
-    }
-    got
+    let count = reader.read(input).map_err(|e| fail(errors, place, e))?;
+    Ok(Got { count })
 }
 
-// Writes all of a text and answers true, or says that `place` failed and answers false. Which it is, the writer
-// decides, where there is something to write.
-pub fn print<W: Write, E: Write>(output: &mut W, errors: &mut E, text: &[u8], place: &[u8]) -> bool
-    ensures empty { length text.now ≡ 0 → result ≡ true }
-    ensures written { result ≡ true → Appends (W.contents output.old) (W.contents output.new) text.now }
+// Writes all of a text, or says that `place` failed. Which it is, the writer decides, where there is something to
+// write.
+pub fn print<W: Write, E: Write>(
+    output: &mut W,
+    errors: &mut E,
+    text: &[u8],
+    place: &[u8],
+) -> Result<(), Failed>
+    ensures empty { length text.now ≡ 0 → IsOk result }
+    ensures written { OnOk result (Appends (W.contents output.old) (W.contents output.new) text.now) }
 {
-    if text.len() == 0 {
-        return true;
+    if text.is_empty() {
+        return Ok(());
     }
-    match output.write_all(text) {
-        Ok(()) => true,
-        Err(error) => {
-            fail(errors, place, error);
-            false
-        }
-    }
+    output.write_all(text).map_err(|e| fail(errors, place, e))
 }
 
 // More bytes of an argument than are shown.
 const ARGUMENT: usize = quoting::SHOWN + 1;
 
-// How many bytes of a buffer hold an argument: of one that is longer than the buffer, all.
-fn held(got: usize, cut: bool) -> usize
-    requires { got ≤ argument_room }
-    ensures { (result ≡ cond cut argument_room got) × (result ≤ argument_room) }
-{
-    if cut { ARGUMENT } else { got }
-}
-
 // Says that a word of the arguments is unknown: its start, between quotes.
-pub fn refuse<R: Env, E: Write>(rt: &R, errors: &mut E, name: &[u8], word: usize) {
+pub fn refuse<R: Env, E: Write>(rt: &R, errors: &mut E, name: &[u8], word: usize) -> Failed {
     let mut argument = [0u8; ARGUMENT];
     let len = match rt.arg(word, &mut argument) {
-        Ok(got) => held(got, false),
-        Err(FillError::TooLong) => held(0, true),
-        Err(FillError::NotPresent) => held(0, false),
+        Ok(len) => len,
+        Err(FillError::TooLong) => ARGUMENT,
+        Err(FillError::NotPresent) => 0,
     };
     let shown = quoting::quoted(&argument[0..len]);
-    let text = shown.text;
-    let shown_len = shown.len;
     let _ = errors.write_all(name);
     let _ = errors.write_all(b": unknown argument ");
-    let _ = errors.write_all(&text[0..shown_len]);
+    let _ = errors.write_all(shown.bytes());
     let _ = errors.write_all(b"; see --help\n");
+    Failed
 }
 
-// What a program ends with: its status where the launcher wants one, and else 0.
+// What a program ends with: its status where the launcher wants one, and else 0. It takes any number, since its clause
+// speaks of all: a `Status` would be fewer.
 pub fn finish(launched: bool, status: u8) -> ExitCode
     ensures { exit_status result ≡ cond launched status 0 }
 {
-    if !launched {
-        return ExitCode::from(DONE);
-    }
-    ExitCode::from(status)
+    ExitCode::from(if launched { status } else { 0 })
+}
+
+// What a program says of itself: its name, its help and version texts, and what it calls its output.
+#[derive(Clone, Copy)]
+pub struct About<'a> {
+    pub name: &'a str,
+    pub help: &'a str,
+    pub version: &'a str,
+    pub output: &'a str,
+}
+
+// What a program reads, and where it writes and says what fails.
+#[derive(Drop)]
+pub struct Streams<R, W, E> {
+    pub reader: R,
+    pub output: W,
+    pub errors: E,
+}
+
+// Does what was chosen: the program's work, or one of its texts.
+fn perform<V: Env, R: Read, W: Write, E: Write, F>(
+    rt: &V,
+    choice: Choice,
+    about: &About<'_>,
+    streams: &mut Streams<R, W, E>,
+    work: F,
+) -> Result<Status, Failed>
+where
+    F: FnOnce(&mut Streams<R, W, E>) -> Result<Status, Failed>,
+    requires { F.IsAlwaysCallable work }
+    ensures worked { choice ≡ Run → FnOnceReturnsAtMut F.FnOnce work streams.old result streams.new }
+    ensures help { choice ≡ Help → IfOk result (λ status. (status ≡ Done)
+        × Appends (W.contents streams.old.output) (W.contents streams.new.output) about.now.help.now) }
+    ensures version { choice ≡ Version → IfOk result (λ status. (status ≡ Done)
+        × Appends (W.contents streams.old.output) (W.contents streams.new.output) about.now.version.now) }
+    ensures unknown { (word : ℕ) → choice ≡ Unknown word → IsErr result }
+{
+    let text = match choice {
+        Choice::Run => return work(streams),
+        Choice::Help => about.help,
+        Choice::Version => about.version,
+        Choice::Unknown(word) => {
+            let name = about.name.as_bytes();
+            return Err(refuse(rt, &mut streams.errors, name, word));
+        }
+    };
+    print(
+        &mut streams.output,
+        &mut streams.errors,
+        text.as_bytes(),
+        about.output.as_bytes(),
+    )?;
+    Ok(Status::Done)
+}
+
+// Runs a program: does what its arguments ask for, and ends with the status of that.
+pub fn run<V: Env, R: Read, W: Write, E: Write, F>(
+    rt: &V,
+    about: &About<'_>,
+    streams: &mut Streams<R, W, E>,
+    work: F,
+) -> ExitCode
+where
+    F: FnOnce(&mut Streams<R, W, E>) -> Result<Status, Failed>,
+    requires { F.IsAlwaysCallable work }
+    ensures { exit_status result ≤ 2 }
+{
+    let asked = Asked::of(rt);
+    let choice = asked.choice;
+    let status = perform(rt, choice, about, streams, work).unwrap_or(Status::Failed);
+    finish(asked.launched, u8::from(status))
 }

@@ -6,32 +6,44 @@ ghost use Rattle.std.specs.Prelude.{◌≡◌, ◌+◌, ◌≤◌, length, take,
 ghost use Rattle.writing.specs.Overwrite.{overwrite};
 ghost use Rattle.quoting.specs.Quoted.{shown_byte, shown_most, opened, quoted, quoted_room};
 
-use numbers::least;
-
 // How many bytes of a word are shown.
 pub const SHOWN: usize = 24;
 
 // Room for any word between quotes, and dots after them.
 pub const ROOM: usize = 1 + SHOWN + 4;
 
-// The front of an array; behind it are zeros.
+// The front of an array; behind it are zeros. (Fixed memory: a text of its own length would be on the heap.)
 #[derive(Clone, Copy)]
 pub struct Shown {
     pub text: [u8; ROOM],
     pub len: usize,
+    pub ghost within: { len ≤ quoted_room },
+}
+
+impl Shown {
+    pub fn bytes(&self) -> &[u8]
+        ensures { result.now ≡ take self.now.len self.now.text }
+    {
+        &self.text[..self.len]
+    }
+
+    // Puts a text behind the front.
+    fn push(&mut self, more: &[u8])
+        requires { self.old.len + length more.now ≤ quoted_room }
+        ensures text { self.new.text ≡ overwrite self.old.text self.old.len more.now }
+        ensures len { self.new.len ≡ self.old.len + length more.now }
+    {
+        let end = self.len + more.len();
+        self.text[self.len..end].copy_from_slice(more);
+        self.len = end;
+    }
 }
 
 #[tactic(auto, unfolding(crate::specs::Quoted::shown_byte))]
 fn shown_byte(byte: u8) -> u8
     ensures { result ≡ shown_byte byte }
 {
-    if byte < b'!' {
-        return b'?';
-    }
-    if b'~' < byte {
-        return b'?';
-    }
-    byte
+    if byte.is_ascii_graphic() { byte } else { b'?' }
 }
 
 // The start of a word behind a quote.
@@ -40,33 +52,30 @@ fn open(word: &[u8]) -> Shown
         (result.text ≡ overwrite (replicate quoted_room 0) 0 text) × (result.len ≡ length text)
         × (result.len ≤ 1 + shown_most) }
 {
-    let count = least(SHOWN, word.len());
+    let start = &word[..word.len().min(SHOWN)];
     let mut text = [0u8; ROOM];
     text[0] = b'"';
-    let mut i: usize = 0;
-    while i < count {
-        text[1 + i] = shown_byte(word[i]);
-        i += 1;
+    for (i, byte) in start.iter().enumerate() {
+        text[1 + i] = shown_byte(*byte);
     }
-    Shown { text, len: 1 + i }
+    Shown {
+        text,
+        len: 1 + start.len(),
+    }
 }
 
 // The start of a word between quotes, with dots behind them where it is longer.
 pub fn quoted(word: &[u8]) -> Shown
-    ensures fact { let text = quoted word.now in
+    ensures text { let text = quoted word.now in
         (result.text ≡ overwrite (replicate quoted_room 0) 0 text) × (result.len ≡ length text)
         × (result.len ≤ quoted_room) }
-    ensures text_value { (take result.len result.text ≡ quoted word.now) × (length result.text ≡ quoted_room) }
+    ensures front { (take result.len result.text ≡ quoted word.now) × (length result.text ≡ quoted_room) }
 {
-    let opened = open(word);
-    let mut text = opened.text;
-    let end = opened.len;
-    text[end] = b'"';
+    let mut shown = open(word);
     if word.len() <= SHOWN {
-        return Shown { text, len: end + 1 };
+        shown.push(b"\"");
+    } else {
+        shown.push(b"\"...");
     }
-    text[end + 1] = b'.';
-    text[end + 2] = b'.';
-    text[end + 3] = b'.';
-    Shown { text, len: end + 4 }
+    shown
 }

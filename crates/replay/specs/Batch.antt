@@ -1,5 +1,5 @@
 -- Many requests, one after another: their lines, and what they leave.
-use Rattle.std.specs.Prelude.{ℕ, zero, suc, ◌+◌, ◌-◌, ◌*◌, ◌/◌, ◌^◌, ◌&&◌, cond, List, [], ◌++◌, length, take, drop, leb, ltb}
+use Rattle.std.specs.Prelude.{ℕ, zero, suc, ◌+◌, ◌-◌, ◌*◌, ◌/◌, ◌^◌, ◌&&◌, Bool, cond, List, [], ◌++◌, length, take, drop, leb, ltb}
 use Rattle.request.specs.Parse.{request_size}
 use Rattle.rules.specs.Serve.{lent}
 use Rattle.rules.specs.Call.{State, state_after}
@@ -27,10 +27,13 @@ replay source (suc k) s number input =
 abbrev pub requests : List ℕ → ℕ
 requests input = (length input + (request_size - 1)) / request_size
 
--- how many a batch serves: all, or none where `room` bytes may be too few for the lines or 64 bits for the numbers
+-- whether `room` bytes are enough for their lines, and 64 bits for the numbers of these
+abbrev pub accepts : ℕ → ℕ → List ℕ → Bool
+accepts room number input = leb (requests input * line_room) room && ltb (number + requests input) (2 ^ 64)
+
+-- how many a batch serves: all, or none where there may be too little room
 abbrev pub accepted : ℕ → ℕ → List ℕ → ℕ
-accepted room number input =
-    cond (leb (requests input * line_room) room && ltb (number + requests input) (2 ^ 64)) (requests input) 0
+accepted room number input = cond (accepts room number input) (requests input) 0
 
 -- what a batch comes to
 abbrev pub batch_of : List ℕ → ℕ → State → ℕ → List ℕ → Batch

@@ -1,6 +1,6 @@
 -- The line that a replay prints for a request.
 use Rattle.std.specs.Prelude.{ℕ, ◌+◌, ◌*◌, Bool, leb, List, [], ◌∷◌, ◌++◌}
-use Rattle.answer.specs.Reply.{Reply}
+use Rattle.answer.specs.declared.Reply.{Reply}
 use Rattle.decimal.specs.Decimal.{width, decimal}
 use Rattle.rules.specs.Serve.{lent}
 use Rattle.rules.specs.Call.{State, serve_on}

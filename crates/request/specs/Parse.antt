@@ -1,12 +1,10 @@
 -- Requests from any bytes (the paper's tickets). Sixteen bytes are four words: the operation, its size or offset, its
 -- count, and zero; an operation is below 256, so its word is its byte with three zero bytes.
-use Rattle.std.specs.Prelude.{ℕ, List, [], ◌∷◌, ◌++◌, map, Bool, ◌&&◌, ◌||◌, cond, length, get_or, eqb}
+use Rattle.std.specs.Prelude.{ℕ, List, [], ◌∷◌, ◌++◌, map, Bool, ◌&&◌, ◌||◌, cond, length, get_or, eqb, Option, Some, None}
 use Rattle.words.specs.Word.{bytes_of, word_at}
 use Rattle.request.specs.declared.Request.{Request}
 use Rattle.request.specs.declared.Request.TheVariants.{Allocate, Free, Remaining, Copy, Read}
 use Rattle.request.specs.declared.Kind.TheVariants.{Bytes, String, Padded}
-use Rattle.request.specs.declared.Parsed.{Parsed}
-use Rattle.request.specs.declared.Parsed.TheVariants.{Whole, Malformed}
 
 -- in the order of their numbers; the paper's place, free, measure, plain copy, text copy, counted copy and read
 abbrev pub operations : ℕ → ℕ → List Request
@@ -20,8 +18,12 @@ operations argument count =
     ∷ Read argument count
     ∷ []
 
+-- a request that is whole, or none
+abbrev pub Parsed : Type 0
+Parsed = Option Request
+
 abbrev pub operation : ℕ → ℕ → ℕ → Parsed
-operation code argument count = get_or (map Whole (operations argument count)) code Malformed
+operation code argument count = get_or (map Some (operations argument count)) code None
 
 -- a padded copy and a read have a count
 abbrev pub has_count : ℕ → Bool
@@ -40,7 +42,7 @@ parse b =
     let count : ℕ = word_at b 8 in
     cond (eqb (length b) request_size && eqb (word_at b 12) 0 && count_allowed code count)
     (operation code (word_at b 4) count)
-    Malformed
+    None
 
 -- the bytes of a request
 abbrev pub request_bytes : ℕ → ℕ → ℕ → List ℕ

@@ -1,4 +1,4 @@
-// Requests: sixteen bytes, read whole into an enum or found malformed.
+// Requests: sixteen bytes, read whole, or found malformed.
 #![tactic(auto)]
 
 ghost use Rattle.std.specs.Prelude.{◌≡◌};
@@ -9,14 +9,14 @@ pub const SIZE: usize = 16;
 
 // What a copy writes: the source; the source through its first zero byte; or the source before it, and zeros up to a
 // count.
-#[derive(Clone, Copy)]
+#[derive(Clone, Copy, Debug, PartialEq, Eq)]
 pub enum Kind {
     Bytes,
     String,
     Padded(u32),
 }
 
-#[derive(Clone, Copy)]
+#[derive(Clone, Copy, Debug, PartialEq, Eq)]
 pub enum Request {
     Allocate(u32),
     Free(u32),
@@ -25,24 +25,18 @@ pub enum Request {
     Read(u32, u32),
 }
 
-#[derive(Clone, Copy)]
-pub enum Parsed {
-    Whole(Request),
-    Malformed,
-}
-
-fn of_operation(code: u32, argument: u32, count: u32) -> Parsed
+fn of_operation(code: u32, argument: u32, count: u32) -> Option<Request>
     ensures { result ≡ operation code argument count }
 {
     match code {
-        0 => Parsed::Whole(Request::Allocate(argument)),
-        1 => Parsed::Whole(Request::Free(argument)),
-        2 => Parsed::Whole(Request::Remaining(argument)),
-        3 => Parsed::Whole(Request::Copy(argument, Kind::Bytes)),
-        4 => Parsed::Whole(Request::Copy(argument, Kind::String)),
-        5 => Parsed::Whole(Request::Copy(argument, Kind::Padded(count))),
-        6 => Parsed::Whole(Request::Read(argument, count)),
-        _ => Parsed::Malformed,
+        0 => Some(Request::Allocate(argument)),
+        1 => Some(Request::Free(argument)),
+        2 => Some(Request::Remaining(argument)),
+        3 => Some(Request::Copy(argument, Kind::Bytes)),
+        4 => Some(Request::Copy(argument, Kind::String)),
+        5 => Some(Request::Copy(argument, Kind::Padded(count))),
+        6 => Some(Request::Read(argument, count)),
+        _ => None,
     }
 }
 
@@ -50,29 +44,27 @@ fn of_operation(code: u32, argument: u32, count: u32) -> Parsed
 pub fn has_count(code: u32) -> bool
     ensures { result ≡ has_count code }
 {
-    if code == 5 { true } else { code == 6 }
+    code == 5 || code == 6
 }
 
 fn count_allowed(code: u32, count: u32) -> bool
     ensures { result ≡ count_allowed code count }
 {
-    if count == 0 { true } else { has_count(code) }
+    count == 0 || has_count(code)
 }
 
-// What any bytes come to.
-pub fn parse(bytes: &[u8]) -> Parsed
+// The request that bytes are, if they are one.
+#[tactic(auto, unfolding(crate::specs::Parse::parse))]
+pub fn parse(bytes: &[u8]) -> Option<Request>
     ensures { result ≡ parse bytes.now }
 {
-    if bytes.len() != SIZE {
-        return Parsed::Malformed;
-    }
-    if words::get(bytes, 12) != 0 {
-        return Parsed::Malformed;
+    if bytes.len() != SIZE || words::get(bytes, 12) != 0 {
+        return None;
     }
     let code = words::get(bytes, 0);
     let count = words::get(bytes, 8);
     if !count_allowed(code, count) {
-        return Parsed::Malformed;
+        return None;
     }
     of_operation(code, words::get(bytes, 4), count)
 }

@@ -1,4 +1,5 @@
 -- The theorem on what a request leaves alone in the heap; the same of an opening; and that filling all slots afterwards makes no difference of it.
+use Rattle.std.specs.Prelude.{Ok, Err, Some, None}
 use Prim.Native.Nat.{ℕ, ◌+◌, ◌-◌, ◌<◌, ◌≤◌}
 use mathlib.Core.Path.{◌≡◌, refl, sym, ap, ap₂, ◌∙◌}
 use mathlib.Core.Bool.{Bool, true, false, true≢false}
@@ -18,15 +19,11 @@ use Rattle.geometry.specs.Layout.{layout_of, heap_length, slot_size, slots, slot
 use Rattle.geometry.proofs.Slots.{slot_inside, slot_located, located_at, into_lt}
 use Rattle.request.specs.declared.Kind.{Kind}
 use Rattle.request.specs.declared.Request.TheVariants.{Allocate, Free, Remaining, Copy, Read}
-use Rattle.request.specs.Parse.{parse}
-use Rattle.request.specs.declared.Parsed.{Parsed}
-use Rattle.request.specs.declared.Parsed.TheVariants.{Whole, Malformed}
+use Rattle.request.specs.Parse.{parse, Parsed}
 use Rattle.writing.specs.Overwrite.{overwrite}
 use Rattle.writing.proofs.Writing.{overwrite_length}
 use Rattle.writing.proofs.Parts.{at_before, at_written, at_after}
-use Rattle.judge.specs.declared.Judged.{Judged}
-use Rattle.judge.specs.declared.Judged.TheVariants.{Laid, Unfit}
-use Rattle.judge.specs.Judge.{lengths, admit}
+use Rattle.judge.specs.Judge.{lengths, admit, Judged}
 use Rattle.metadata.specs.Metadata.{canary_of}
 use Rattle.canary.specs.Canary.{canary_byte, filled, filled_byte, filled_heap}
 use Rattle.rules.specs.Open.{Setup}
@@ -85,7 +82,7 @@ module _ (G : Layout) (m : List ℕ) (offset x : ℕ) where
 
 -- a free may change it: the slot starts at the offset and is live, and the byte lies in it
 pub free_slot : (G : Layout) (m : List ℕ) (offset x : ℕ)
-    → MayChange G m (Whole (Free offset)) x ↔ (((locate G offset).into ≡ 0) × (is_live G m (locate G offset) ≡ true) × SameSlot G offset x)
+    → MayChange G m (Some (Free offset)) x ↔ (((locate G offset).into ≡ 0) × (is_live G m (locate G offset) ≡ true) × SameSlot G offset x)
 free_slot G m offset x = (
   λ (start, r). let (live, same, l) = (rest_located G m offset x).0 r in (start, live, same),
   λ (start, live, (p, q)).
@@ -95,12 +92,12 @@ free_slot G m offset x = (
 
 -- so a byte that a request may change lies in a slot
 pub change_in_slot : (G : Layout) (m : List ℕ) (p : Parsed) (x : ℕ) → MayChange G m p x → InSlot G x
-change_in_slot G m (Whole (Allocate size)) x f = absurd f
-change_in_slot G m (Whole (Free offset)) x f = rest_in_slot G m offset x f.1
-change_in_slot G m (Whole (Remaining offset)) x f = absurd f
-change_in_slot G m (Whole (Copy offset kind)) x f = rest_in_slot G m offset x f
-change_in_slot G m (Whole (Read offset count)) x f = absurd f
-change_in_slot G m Malformed x f = absurd f
+change_in_slot G m (Some (Allocate size)) x f = absurd f
+change_in_slot G m (Some (Free offset)) x f = rest_in_slot G m offset x f.1
+change_in_slot G m (Some (Remaining offset)) x f = absurd f
+change_in_slot G m (Some (Copy offset kind)) x f = rest_in_slot G m offset x f
+change_in_slot G m (Some (Read offset count)) x f = absurd f
+change_in_slot G m None x f = absurd f
 
 -- ---- heaps that are kept but for some bytes
 
@@ -157,7 +154,7 @@ module _ (G : Layout) (m h : List ℕ) (fits : length h ≡ heap_length G) where
   kept_served serves f = f refl
 
   free_keeps : (offset : ℕ) → let l = locate G offset in
-      free G m offset ≡ freed l.class l.slot → KeptBut (MayChange G m (Whole (Free offset))) h (heap_after G m h (freed l.class l.slot))
+      free G m offset ≡ freed l.class l.slot → KeptBut (MayChange G m (Some (Free offset))) h (heap_after G m h (freed l.class l.slot))
   free_keeps offset e =
       let l : Location = locate G offset in
       let (at, some, set, count) = free_finds G m offset e in
@@ -176,12 +173,12 @@ module _ (G : Layout) (m h : List ℕ) (fits : length h ≡ heap_length G) where
       kept_around offset bytes (omega arith) (λ x k u. (k, omega arith))
 
   pub act_keeps : (beside : Lent) (p : Parsed) → KeptBut (MayChange G m p) h (heap_after G m h (act G m beside p))
-  act_keeps beside (Whole (Allocate size)) = kept_served (allocate_comes G m size) (λ e. kept_same refl)
-  act_keeps beside (Whole (Free offset)) = kept_served (free_comes G m offset) (free_keeps offset)
-  act_keeps beside (Whole (Remaining offset)) = kept_served (remaining_comes G m offset) (λ e. kept_same (take-append-drop offset h))
-  act_keeps beside (Whole (Copy offset kind)) = kept_served (copy_comes G m offset kind beside.source) (copy_keeps offset kind beside.source)
-  act_keeps beside (Whole (Read offset count)) = kept_served (read_comes G m offset count (length beside.page)) (λ e. kept_same refl)
-  act_keeps beside Malformed = kept_same refl
+  act_keeps beside (Some (Allocate size)) = kept_served (allocate_comes G m size) (λ e. kept_same refl)
+  act_keeps beside (Some (Free offset)) = kept_served (free_comes G m offset) (free_keeps offset)
+  act_keeps beside (Some (Remaining offset)) = kept_served (remaining_comes G m offset) (λ e. kept_same (take-append-drop offset h))
+  act_keeps beside (Some (Copy offset kind)) = kept_served (copy_comes G m offset kind beside.source) (copy_keeps offset kind beside.source)
+  act_keeps beside (Some (Read offset count)) = kept_served (read_comes G m offset count (length beside.page)) (λ e. kept_same refl)
+  act_keeps beside None = kept_same refl
 
 -- ---- an opening
 
@@ -218,9 +215,9 @@ opening_keeps h m s = go (lengths (length h) (length m)) (is_unusable s.seeds) r
   where
     go : (j : Judged) (t : Bool) → lengths (length h) (length m) ≡ j → is_unusable s.seeds ≡ t
         → KeptBut (InSlot (layout_of (length h))) h ((opening (length h) m s).heap h)
-    go (Unfit r) t e f = rw (opening_unfit (length h) m s e) (kept_same refl)
-    go (Laid G) true e f = rw (opening_unusable (length h) m s e f) (kept_same refl)
-    go (Laid G) false e f = rw (opening_served (length h) m s e f, ← (laid_fits (length h) (length m) e).0) (filled_keeps G s.canary h)
+    go (Err r) t e f = rw (opening_unfit (length h) m s e) (kept_same refl)
+    go (Ok G) true e f = rw (opening_unusable (length h) m s e f) (kept_same refl)
+    go (Ok G) false e f = rw (opening_served (length h) m s e f, ← (laid_fits (length h) (length m) e).0) (filled_keeps G s.canary h)
 
 -- ---- a request
 
@@ -233,8 +230,8 @@ request_keeps h m request beside = (go (admit (length h) m) refl, λ f. (serve_r
   where
     go : (j : Judged) → admit (length h) m ≡ j
         → KeptBut (MayChange (layout_of (length h)) m (parse request)) h ((serve (length h) m request beside).heap h)
-    go (Unfit r) e = rw (serving_unfit (length h) m beside (parse request) e) (kept_same refl)
-    go (Laid G) e =
+    go (Err r) e = rw (serving_unfit (length h) m beside (parse request) e) (kept_same refl)
+    go (Ok G) e =
         let (same, fits) = admit_fits (length h) m e in
         rw (serving_acts (length h) m beside (parse request) e, ← same) (act_keeps G m h fits.heap beside (parse request))
 
@@ -254,11 +251,11 @@ module _ (h m request : List ℕ) (beside : Lent) where
   unwritten : (p : Parsed) → parse request ≡ p → ((x : ℕ) → MayChange (layout_of (length h)) m p x → ⊥) → after ≡ h
   unwritten p e none = kept_all (λ x f. none x (rw e at f)) (request_keeps h m request beside).0
 
-  pub allocation_keeps : (size : ℕ) → parse request ≡ Whole (Allocate size) → after ≡ h
-  allocation_keeps size e = unwritten (Whole (Allocate size)) e (λ x f. f)
+  pub allocation_keeps : (size : ℕ) → parse request ≡ Some (Allocate size) → after ≡ h
+  allocation_keeps size e = unwritten (Some (Allocate size)) e (λ x f. f)
 
-  pub measuring_keeps : (offset : ℕ) → parse request ≡ Whole (Remaining offset) → after ≡ h
-  measuring_keeps offset e = unwritten (Whole (Remaining offset)) e (λ x f. f)
+  pub measuring_keeps : (offset : ℕ) → parse request ≡ Some (Remaining offset) → after ≡ h
+  measuring_keeps offset e = unwritten (Some (Remaining offset)) e (λ x f. f)
 
-  pub read_keeps : (offset count : ℕ) → parse request ≡ Whole (Read offset count) → after ≡ h
-  read_keeps offset count e = unwritten (Whole (Read offset count)) e (λ x f. f)
+  pub read_keeps : (offset count : ℕ) → parse request ≡ Some (Read offset count) → after ≡ h
+  read_keeps offset count e = unwritten (Some (Read offset count)) e (λ x f. f)

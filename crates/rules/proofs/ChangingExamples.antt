@@ -1,4 +1,5 @@
 -- Examples of the words of the theorem on what requests leave alone: what they hold of, and near misses.
+use Rattle.std.specs.Prelude.{Some}
 use Prim.Native.Nat.{ℕ, ◌*◌}
 use mathlib.Core.Path.{◌≡◌, refl}
 use mathlib.Core.List.{List}
@@ -10,7 +11,6 @@ use Rattle.geometry.specs.declared.Layout.{Layout}
 use Rattle.geometry.specs.Layout.{layout_of, classes, slot_size, bitmap_at, metadata_length}
 use Rattle.request.specs.declared.Kind.{Kind}
 use Rattle.request.specs.declared.Request.TheVariants.{Free, Copy}
-use Rattle.request.specs.declared.Parsed.TheVariants.{Whole}
 use Rattle.rules.specs.Object.{space}
 use Rattle.rules.specs.Changing.{InSlot, MayChange, KeptBut}
 
@@ -28,16 +28,16 @@ rest : space G m 5_476 ≡ 156
 unfolding space bitmap_at slot_size first
 rest = refl
 
-copy_first : (kind : Kind) → MayChange G m (Whole (Copy 5_476 kind)) 5_476
+copy_first : (kind : Kind) → MayChange G m (Some (Copy 5_476 kind)) 5_476
 copy_first kind = rw rest (omega arith, omega arith)
 
-copy_last : (kind : Kind) → MayChange G m (Whole (Copy 5_476 kind)) 5_631
+copy_last : (kind : Kind) → MayChange G m (Some (Copy 5_476 kind)) 5_631
 copy_last kind = rw rest (omega arith, omega arith)
 
-before_copy : (kind : Kind) → MayChange G m (Whole (Copy 5_476 kind)) 5_475 → ⊥
+before_copy : (kind : Kind) → MayChange G m (Some (Copy 5_476 kind)) 5_475 → ⊥
 before_copy kind f = omega (arith, f.0)
 
-after_copy : (kind : Kind) → MayChange G m (Whole (Copy 5_476 kind)) 5_632 → ⊥
+after_copy : (kind : Kind) → MayChange G m (Some (Copy 5_476 kind)) 5_632 → ⊥
 after_copy kind f = omega (arith, f.1, rest)
 
 -- nothing is live there, or there is no slot: no byte
@@ -49,10 +49,10 @@ no_slot : space G m 8_192 ≡ 0
 unfolding space bitmap_at slot_size first
 no_slot = refl
 
-copy_to_none : (kind : Kind) (x : ℕ) → MayChange G m (Whole (Copy 5_120 kind)) x → ⊥
+copy_to_none : (kind : Kind) (x : ℕ) → MayChange G m (Some (Copy 5_120 kind)) x → ⊥
 copy_to_none kind x f = omega (arith, f.0, f.1, none_live)
 
-copy_outside : (kind : Kind) (x : ℕ) → MayChange G m (Whole (Copy 8_192 kind)) x → ⊥
+copy_outside : (kind : Kind) (x : ℕ) → MayChange G m (Some (Copy 8_192 kind)) x → ⊥
 copy_outside kind x f = omega (arith, f.0, f.1, no_slot)
 
 -- ---- a free: from the first byte of the object to its last, far behind, and not the byte before or after
@@ -61,26 +61,26 @@ all : space G m 7_168 ≡ 1_024
 unfolding space bitmap_at slot_size first
 all = refl
 
-free_first : MayChange G m (Whole (Free 7_168)) 7_168
+free_first : MayChange G m (Some (Free 7_168)) 7_168
 unfolding slot_size first
 free_first = (refl, rw all (omega arith, omega arith))
 
-free_last : MayChange G m (Whole (Free 7_168)) 8_191
+free_last : MayChange G m (Some (Free 7_168)) 8_191
 unfolding slot_size first
 free_last = (refl, rw all (omega arith, omega arith))
 
-before_free : MayChange G m (Whole (Free 7_168)) 7_167 → ⊥
+before_free : MayChange G m (Some (Free 7_168)) 7_167 → ⊥
 before_free f = omega (arith, f.1.0)
 
-after_free : MayChange G m (Whole (Free 7_168)) 8_192 → ⊥
+after_free : MayChange G m (Some (Free 7_168)) 8_192 → ⊥
 after_free f = omega (arith, f.1.1, all)
 
 -- no object starts there, or none that is live: no byte
-free_amid : (x : ℕ) → MayChange G m (Whole (Free 7_169)) x → ⊥
+free_amid : (x : ℕ) → MayChange G m (Some (Free 7_169)) x → ⊥
 unfolding slot_size first
 free_amid x f = let e : ◌≡◌ {A = ℕ} 1 0 = f.0 in omega arith
 
-free_of_none : (x : ℕ) → MayChange G m (Whole (Free 5_120)) x → ⊥
+free_of_none : (x : ℕ) → MayChange G m (Some (Free 5_120)) x → ⊥
 free_of_none x f = omega (arith, f.1.0, f.1.1, none_live)
 
 -- regions of 16,384 bytes, which the last class's slot fills; it is live
@@ -94,11 +94,11 @@ all_large : space large m' 180_224 ≡ 16_384
 unfolding space bitmap_at slot_size first
 all_large = refl
 
-free_large : MayChange large m' (Whole (Free 180_224)) 196_607
+free_large : MayChange large m' (Some (Free 180_224)) 196_607
 unfolding slot_size first
 free_large = (refl, rw all_large (omega arith, omega arith))
 
-after_large : MayChange large m' (Whole (Free 180_224)) 196_608 → ⊥
+after_large : MayChange large m' (Some (Free 180_224)) 196_608 → ⊥
 after_large f = omega (arith, f.1.1, all_large)
 
 -- ---- in slots

@@ -1,5 +1,6 @@
 -- What each way through an inspection comes to, and the theorems of what it lists: nothing where it is refused; where it is served all damaged
 -- clear slots; and that this depends on no byte of a live slot, and on none outside slots.
+use Rattle.std.specs.Prelude.{Ok, Err}
 use Prim.Native.Nat.{ℕ, ◌+◌, ◌<◌}
 use mathlib.Core.Path.{◌≡◌, refl, sym, ap, ◌∙◌}
 use mathlib.Core.Logic.{◌↔◌}
@@ -17,20 +18,18 @@ use Rattle.answer.specs.declared.Refusal.{Refusal}
 use Rattle.answer.specs.declared.Refusal.TheVariants.{ListTooShort}
 use Rattle.answer.specs.Reply.{number_of}
 use Rattle.answer.proofs.Numbers.{refusal_number}
-use Rattle.judge.specs.declared.Judged.{Judged}
-use Rattle.judge.specs.declared.Judged.TheVariants.{Laid, Unfit}
-use Rattle.judge.specs.Judge.{admit}
+use Rattle.judge.specs.Judge.{admit, Judged}
 use Rattle.rules.specs.Inspect.{hits, Inspection, unlisted, listed, listed_whole, inspection}
 use Rattle.rules.specs.Inspected.{offsets_in, Damaged, AllDamaged, ClearAlike}
 use Rattle.judge.proofs.Judging.{admit_fits}
 use Rattle.rules.proofs.Damage.{slot_at, hits_damaged, damaged_same}
 
 module _ (h m list : List ℕ) where
-  pub inspection_unfit : {r : Refusal} → admit (length h) m ≡ Unfit r → inspection h m list ≡ unlisted list r
+  pub inspection_unfit : {r : Refusal} → admit (length h) m ≡ Err r → inspection h m list ≡ unlisted list r
   unfolding inspection
   inspection_unfit e = rw e
 
-  pub inspection_laid : {G : Layout} → admit (length h) m ≡ Laid G → inspection h m list ≡ listed_whole list (hits G m h)
+  pub inspection_laid : {G : Layout} → admit (length h) m ≡ Ok G → inspection h m list ≡ listed_whole list (hits G m h)
   unfolding inspection
   inspection_laid e = rw e
 
@@ -67,8 +66,8 @@ inspection_refused h m list = go (admit (length h) m) refl
   where
     go : (j : Judged) → admit (length h) m ≡ j
         → ((inspection h m list).answer.number ≡ 0 → ⊥) → ((inspection h m list).answer.value ≡ 0) × ((inspection h m list).list ≡ list)
-    go (Unfit r) e = rw (inspection_unfit h m list e) (λ f. (refl, refl))
-    go (Laid G) e = rw (inspection_laid h m list e) (short (ltb (length list) (length (hits G m h))) refl)
+    go (Err r) e = rw (inspection_unfit h m list e) (λ f. (refl, refl))
+    go (Ok G) e = rw (inspection_laid h m list e) (short (ltb (length list) (length (hits G m h))) refl)
       where
         short : (t : Bool) → ltb (length list) (length (hits G m h)) ≡ t → let i = listed_whole list (hits G m h) in
             (i.answer.number ≡ 0 → ⊥) → (i.answer.value ≡ 0) × (i.list ≡ list)
@@ -78,7 +77,7 @@ inspection_refused h m list = go (admit (length h) m) refl
 -- ---- served
 
 -- With lengths and counts that are right, an inspection goes by the offsets of all damaged clear slots: there is one list of them.
-module _ (h m list : List ℕ) {G : Layout} (admitted : admit (length h) m ≡ Laid G) where
+module _ (h m list : List ℕ) {G : Layout} (admitted : admit (length h) m ≡ Ok G) where
   pub all_damaged : AllDamaged G m h (hits G m h)
   all_damaged = hits_damaged G m h (admit_fits (length h) m admitted).1.heap
 
@@ -101,8 +100,8 @@ inspection_lists h m list = go (admit (length h) m) refl
   where
     go : (j : Judged) → admit (length h) m ≡ j → let i = inspection h m list in
         i.answer.number ≡ 0 → AllDamaged (layout_of (length h)) m h (offsets_in i) × (length (offsets_in i) ≡ i.answer.value)
-    go (Unfit r) e = rw (inspection_unfit h m list e) (λ f. absurd (refusal_number r f))
-    go (Laid G) e = rw (inspection_laid h m list e) (λ f.
+    go (Err r) e = rw (inspection_unfit h m list e) (λ f. absurd (refusal_number r f))
+    go (Ok G) e = rw (inspection_laid h m list e) (λ f.
         let (back, value) = whole_offsets list (hits G m h) f in
         rw (back, value, ← (admit_fits (length h) m e).0) (all_damaged h m list e, refl))
 
@@ -156,8 +155,8 @@ pub same_inspection : (h h' m list list' : List ℕ) → length h ≡ length h' 
 same_inspection h h' m list list' long room same = go (admit (length h) m) refl
   where
     go : (j : Judged) → admit (length h) m ≡ j → Same (inspection h m list) (inspection h' m list')
-    go (Unfit r) e = rw (inspection_unfit h m list e, inspection_unfit h' m list' (rw long at e)) (refl, refl)
-    go (Laid G) e =
+    go (Err r) e = rw (inspection_unfit h m list e, inspection_unfit h' m list' (rw long at e)) (refl, refl)
+    go (Ok G) e =
         let (of, fits) = admit_fits (length h) m e in
         rw (
           inspection_laid h m list e,

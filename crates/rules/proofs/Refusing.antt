@@ -1,4 +1,5 @@
 -- A refused call has value 0, changes no byte of metadata and heap, and shows nothing.
+use Rattle.std.specs.Prelude.{Ok, Err}
 use Prim.Native.Nat.{ℕ}
 use mathlib.Core.Path.{◌≡◌, refl}
 use mathlib.Core.Bool.{Bool, true, false}
@@ -9,9 +10,7 @@ use Rattle.geometry.specs.declared.Layout.{Layout}
 use Rattle.answer.specs.declared.Refusal.{Refusal}
 use Rattle.answer.specs.declared.Refusal.TheVariants.{UnusableSeed}
 use Rattle.request.specs.Parse.{parse}
-use Rattle.judge.specs.declared.Judged.{Judged}
-use Rattle.judge.specs.declared.Judged.TheVariants.{Laid, Unfit}
-use Rattle.judge.specs.Judge.{lengths, admit}
+use Rattle.judge.specs.Judge.{lengths, admit, Judged}
 use Rattle.rules.specs.Open.{Setup}
 use Rattle.rules.specs.Outcome.{Outcome, refused, allocated, freed, told, shown}
 use Rattle.rules.specs.Serve.{Lent, act}
@@ -37,14 +36,14 @@ pub serve_refused : (n : ℕ) (m request : List ℕ) (beside : Lent) → Changel
 serve_refused n m request beside = go (admit n m) refl
   where
     go : (j : Judged) → admit n m ≡ j → Changeless m (serve n m request beside)
-    go (Unfit r) e = rw (serving_unfit n m beside (parse request) e) (λ h. unserved_idle m r)
-    go (Laid G) e = rw (serving_acts n m beside (parse request) e) (outcome_refused G m (act G m beside (parse request)))
+    go (Err r) e = rw (serving_unfit n m beside (parse request) e) (λ h. unserved_idle m r)
+    go (Ok G) e = rw (serving_acts n m beside (parse request) e) (outcome_refused G m (act G m beside (parse request)))
 
 -- an opening
 pub opening_refused : (n : ℕ) (m : List ℕ) (s : Setup) → Changeless m (opening n m s)
 opening_refused n m s = go (lengths n (length m)) (is_unusable s.seeds) refl refl
   where
     go : (j : Judged) (t : Bool) → lengths n (length m) ≡ j → is_unusable s.seeds ≡ t → Changeless m (opening n m s)
-    go (Unfit r) t e f = rw (opening_unfit n m s e) (λ h. unserved_idle m r)
-    go (Laid G) true e f = rw (opening_unusable n m s e f) (λ h. unserved_idle m UnusableSeed)
-    go (Laid G) false e f = rw (opening_served n m s e f) (λ h. absurd (h refl))
+    go (Err r) t e f = rw (opening_unfit n m s e) (λ h. unserved_idle m r)
+    go (Ok G) true e f = rw (opening_unusable n m s e f) (λ h. unserved_idle m UnusableSeed)
+    go (Ok G) false e f = rw (opening_served n m s e f) (λ h. absurd (h refl))

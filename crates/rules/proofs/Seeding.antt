@@ -1,4 +1,5 @@
 -- Which seeds an opening refuses: those of which a half freezes.
+use Rattle.std.specs.Prelude.{Ok, Err}
 use Prim.Native.Nat.{ℕ, ◌^◌, ◌<◌}
 use mathlib.Core.Path.{◌≡◌, refl, ap}
 use mathlib.Core.Logic.{◌↔◌}
@@ -11,11 +12,10 @@ use Rattle.mwc.specs.Freezing.{EitherFreezes}
 use Rattle.mwc.proofs.Freezing.{unusable_freezes}
 use Rattle.geometry.specs.declared.Layout.{Layout}
 use Rattle.answer.specs.declared.Refusal.TheVariants.{UnusableSeed}
-use Rattle.answer.specs.Reply.{Reply, refused_by}
+use Rattle.answer.specs.declared.Reply.{Reply}
+use Rattle.answer.specs.Reply.{refused_by}
 use Rattle.answer.proofs.Numbers.{refusal_number}
-use Rattle.judge.specs.declared.Judged.{Judged}
-use Rattle.judge.specs.declared.Judged.TheVariants.{Laid, Unfit}
-use Rattle.judge.specs.Judge.{lengths}
+use Rattle.judge.specs.Judge.{lengths, Judged}
 use Rattle.rules.specs.Open.{Setup}
 use Rattle.rules.specs.Call.{opening}
 use Rattle.rules.proofs.Serving.{opening_unfit, opening_unusable, opening_served}
@@ -25,7 +25,7 @@ module _ (n : ℕ) (m : List ℕ) (s : Setup) (small-z : s.seeds.z < 2 ^ 32) (sm
   frozen = unusable_freezes s.seeds small-z small-w
 
   -- where the lengths are right
-  pub seeds_refused : {G : Layout} → lengths n (length m) ≡ Laid G
+  pub seeds_refused : {G : Layout} → lengths n (length m) ≡ Ok G
       → ((opening n m s).answer ≡ refused_by UnusableSeed) ↔ EitherFreezes s.seeds
   seeds_refused laid =
       (λ e. frozen.0 (go (is_unusable s.seeds) refl e), λ f. rw (opening_unusable n m s laid (frozen.1 f)) refl)
@@ -42,5 +42,5 @@ module _ (n : ℕ) (m : List ℕ) (s : Setup) (small-z : s.seeds.z < 2 ^ 32) (sm
   opened_never e f = go (lengths n (length m)) refl
     where
       go : (j : Judged) → lengths n (length m) ≡ j → ⊥
-      go (Unfit r) q = refusal_number r (rw (opening_unfit n m s q) at e)
-      go (Laid G) q = refusal_number UnusableSeed (rw (opening_unusable n m s q (frozen.1 f)) at e)
+      go (Err r) q = refusal_number r (rw (opening_unfit n m s q) at e)
+      go (Ok G) q = refusal_number UnusableSeed (rw (opening_unusable n m s q (frozen.1 f)) at e)

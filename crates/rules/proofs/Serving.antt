@@ -1,4 +1,5 @@
 -- What serving and opening come to, once lengths and counts are judged.
+use Rattle.std.specs.Prelude.{Ok, Err}
 use Prim.Native.Nat.{ℕ}
 use mathlib.Core.Path.{◌≡◌, refl, ap}
 use mathlib.Core.Bool.{Bool, true, false}
@@ -7,12 +8,11 @@ use native.Mathlib.Decide.{ℕ_discrete}
 use lib.ListN.{length}
 use Rattle.geometry.specs.declared.Layout.{Layout}
 use Rattle.geometry.specs.Layout.{region_of, layout_of, metadata_length}
-use Rattle.request.specs.declared.Parsed.{Parsed}
+use Rattle.request.specs.Parse.{Parsed}
 use Rattle.answer.specs.declared.Refusal.{Refusal}
 use Rattle.answer.specs.declared.Refusal.TheVariants.{UnusableSeed, HeapLength, MetadataLength}
 use Rattle.answer.proofs.Numbers.{refusal_number}
 use Rattle.mwc.specs.Draw.{is_unusable}
-use Rattle.judge.specs.declared.Judged.TheVariants.{Laid, Unfit}
 use Rattle.judge.specs.Judge.{lengths, admit}
 use Rattle.judge.proofs.Judging.{no_heap, other_length, right_lengths}
 use Rattle.rules.specs.Open.{Setup, fresh}
@@ -22,23 +22,23 @@ use Rattle.rules.specs.Call.{Call, called_by, unserved, serving, opened_by, open
 -- what each way through serving comes to
 module _ (n : ℕ) (m : List ℕ) (beside : Lent) (asked : Parsed) where
   -- a request that is admitted is acted on
-  pub serving_acts : {G : Layout} → admit n m ≡ Laid G → serving n m beside asked ≡ called_by G m (act G m beside asked)
+  pub serving_acts : {G : Layout} → admit n m ≡ Ok G → serving n m beside asked ≡ called_by G m (act G m beside asked)
   unfolding serving
   serving_acts e = rw e
 
   -- and any other is refused
-  pub serving_unfit : {r : Refusal} → admit n m ≡ Unfit r → serving n m beside asked ≡ unserved m r
+  pub serving_unfit : {r : Refusal} → admit n m ≡ Err r → serving n m beside asked ≡ unserved m r
   unfolding serving
   serving_unfit e = rw e
 
 -- what each way through an opening comes to
 module _ (n : ℕ) (m : List ℕ) (s : Setup) where
   -- a length is not allowed
-  pub opening_unfit : {r : Refusal} → lengths n (length m) ≡ Unfit r → opening n m s ≡ unserved m r
+  pub opening_unfit : {r : Refusal} → lengths n (length m) ≡ Err r → opening n m s ≡ unserved m r
   unfolding opening
   opening_unfit e = rw e
 
-  module _ {G : Layout} (laid : lengths n (length m) ≡ Laid G) where
+  module _ {G : Layout} (laid : lengths n (length m) ≡ Ok G) where
     -- the seeds are not
     pub opening_unusable : is_unusable s.seeds ≡ true → opening n m s ≡ unserved m UnusableSeed
     unfolding opening
@@ -61,7 +61,7 @@ module _ (n : ℕ) (m : List ℕ) (s : Setup) where
       | no p ↦ absurd (refusal_number MetadataLength (rw (opening_unfit (other_length n (length m) has_layout p)) at e))
     ]
       where
-        seeded : (t : Bool) → is_unusable s.seeds ≡ t → lengths n (length m) ≡ Laid (layout_of n) → opening n m s ≡ opened_by (layout_of n) s
+        seeded : (t : Bool) → is_unusable s.seeds ≡ t → lengths n (length m) ≡ Ok (layout_of n) → opening n m s ≡ opened_by (layout_of n) s
         seeded true q laid = absurd (refusal_number UnusableSeed (rw (opening_unusable laid q) at e))
         seeded false q laid = opening_served laid q
 

@@ -1,5 +1,6 @@
 -- What a read shows lies in the heap or in the page, and its value is how many bytes that is; with plain arguments it is what the request of
 -- its bytes comes to.
+use Rattle.std.specs.Prelude.{Ok, Err, Some}
 use Prim.Native.Nat.{ℕ, ◌^◌, ◌<◌, zero-le}
 use mathlib.Core.Path.{◌≡◌, refl}
 use mathlib.Core.Bool.{Bool, true, false, or-true}
@@ -12,15 +13,12 @@ use Rattle.geometry.specs.declared.Layout.{Layout}
 use Rattle.answer.specs.declared.Refusal.{Refusal}
 use Rattle.geometry.specs.Layout.{heap_length}
 use Rattle.request.specs.declared.Request.TheVariants.{Read}
-use Rattle.request.specs.declared.Parsed.TheVariants.{Whole}
 use Rattle.request.specs.Parse.{request_bytes}
 use Rattle.request.proofs.Parsing.{encoded}
 use Rattle.view.specs.declared.View.{View}
-use Rattle.judge.specs.declared.Judged.{Judged}
-use Rattle.judge.specs.declared.Judged.TheVariants.{Laid, Unfit}
 use Rattle.view.specs.View.{Lies}
 use Rattle.view.proofs.Lying.{room_lies}
-use Rattle.judge.specs.Judge.{admit}
+use Rattle.judge.specs.Judge.{admit, Judged}
 use Rattle.rules.specs.Outcome.{Outcome, shown, reply, view_of}
 use Rattle.rules.specs.Object.{space}
 use Rattle.rules.specs.Read.{read}
@@ -55,8 +53,8 @@ module _ (n : ℕ) (m : List ℕ) (offset count : ℕ) (page : List ℕ) where
   reading_comes P unfit acts = go (admit n m) refl
     where
       go : (j : Judged) → admit n m ≡ j → P (reading n m offset count page)
-      go (Unfit r) e = rw (serving_unfit n m (lent_with [] page) (Whole (Read offset count)) e) (unfit r)
-      go (Laid G) e = rw (serving_acts n m (lent_with [] page) (Whole (Read offset count)) e) (acts G (admit_fits n m e).1.heap)
+      go (Err r) e = rw (serving_unfit n m (lent_with [] page) (Some (Read offset count)) e) (unfit r)
+      go (Ok G) e = rw (serving_acts n m (lent_with [] page) (Some (Read offset count)) e) (acts G (admit_fits n m e).1.heap)
 
   pub shown_lies : Lies n (length page) (reading n m offset count page).view
   shown_lies =

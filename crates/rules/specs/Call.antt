@@ -1,15 +1,14 @@
 -- What a call is to its caller: its answer, the metadata after it, what it makes of the heap's bytes, and where the
 -- bytes lie that it shows. All but the heap depends on the heap's length alone.
-use Rattle.std.specs.Prelude.{ℕ, List, [], ◌∷◌, length}
+use Rattle.std.specs.Prelude.{ℕ, List, [], ◌∷◌, length, Some}
 use Rattle.mwc.specs.Draw.{is_unusable}
 use Rattle.geometry.specs.declared.Layout.{Layout}
 use Rattle.request.specs.declared.Request.TheVariants.{Read}
-use Rattle.request.specs.declared.Parsed.{Parsed}
-use Rattle.request.specs.declared.Parsed.TheVariants.{Whole}
-use Rattle.request.specs.Parse.{parse}
+use Rattle.request.specs.Parse.{parse, Parsed}
 use Rattle.answer.specs.declared.Refusal.{Refusal}
 use Rattle.answer.specs.declared.Refusal.TheVariants.{UnusableSeed}
-use Rattle.answer.specs.Reply.{Reply, served, refused_by}
+use Rattle.answer.specs.declared.Reply.{Reply}
+use Rattle.answer.specs.Reply.{served, refused_by}
 use Rattle.answer.specs.Checks.{◌when◌, checked}
 use Rattle.view.specs.declared.View.{View}
 use Rattle.judge.specs.Judge.{lengths, once_laid, admit}
@@ -46,7 +45,7 @@ serve heap_bytes m request beside = serving heap_bytes m beside (parse request)
 
 -- a read with plain arguments
 abbrev pub reading : ℕ → List ℕ → ℕ → ℕ → List ℕ → Call
-reading heap_bytes m offset count page = serving heap_bytes m (lent_with [] page) (Whole (Read offset count))
+reading heap_bytes m offset count page = serving heap_bytes m (lent_with [] page) (Some (Read offset count))
 
 -- an opening: fresh metadata, and a canary in every slot
 abbrev pub opened_by : Layout → Setup → Call

@@ -1,10 +1,9 @@
 -- What calls change: nothing, where they are without effect; and of a heap, which bytes a request may change.
-use Rattle.std.specs.Prelude.{ℕ, ◌+◌, ◌≤◌, ◌<◌, ◌≡◌, List, length, get_or}
+use Rattle.std.specs.Prelude.{ℕ, ◌+◌, ◌≤◌, ◌<◌, ◌≡◌, List, length, get_or, Some, None}
 use Rattle.geometry.specs.declared.Layout.{Layout}
 use Rattle.geometry.specs.Layout.{slots, locate}
 use Rattle.request.specs.declared.Request.TheVariants.{Allocate, Free, Remaining, Copy, Read}
-use Rattle.request.specs.declared.Parsed.{Parsed}
-use Rattle.request.specs.declared.Parsed.TheVariants.{Whole, Malformed}
+use Rattle.request.specs.Parse.{Parsed}
 use Rattle.view.specs.View.{no_view}
 use Rattle.rules.specs.Object.{space}
 use Rattle.rules.specs.Call.{Call}
@@ -38,12 +37,12 @@ InRest G m offset x = (offset ≤ x) × (x < offset + space G m offset)
 -- a request may change it: a free all bytes of the live object that starts at its offset, a copy those from its offset
 -- to the end of the live object there, any other request none
 abbrev pub MayChange : Layout → List ℕ → Parsed → ℕ → Type 0
-MayChange G m (Whole (Allocate size)) x = ⊥
-MayChange G m (Whole (Free offset)) x = ((locate G offset).into ≡ 0) × InRest G m offset x
-MayChange G m (Whole (Remaining offset)) x = ⊥
-MayChange G m (Whole (Copy offset kind)) x = InRest G m offset x
-MayChange G m (Whole (Read offset count)) x = ⊥
-MayChange G m Malformed x = ⊥
+MayChange G m (Some (Allocate size)) x = ⊥
+MayChange G m (Some (Free offset)) x = ((locate G offset).into ≡ 0) × InRest G m offset x
+MayChange G m (Some (Remaining offset)) x = ⊥
+MayChange G m (Some (Copy offset kind)) x = InRest G m offset x
+MayChange G m (Some (Read offset count)) x = ⊥
+MayChange G m None x = ⊥
 
 -- a heap h afterwards: as long as it was, and each byte as it was, but for those that may have changed
 pub record KeptBut (Changes : ℕ → Type 0) (h after : List ℕ) : Type 0 where

@@ -7,7 +7,8 @@ use Rattle.geometry.specs.declared.Location.{Location}
 use Rattle.geometry.specs.Layout.{heap_length, slot_size, locate}
 use Rattle.answer.specs.declared.Refusal.{Refusal}
 use Rattle.answer.specs.declared.Refusal.TheVariants.{ListTooShort}
-use Rattle.answer.specs.Reply.{Reply, served, refused_by}
+use Rattle.answer.specs.declared.Reply.{Reply}
+use Rattle.answer.specs.Reply.{served, refused_by}
 use Rattle.answer.specs.Checks.{◌when◌, checked}
 use Rattle.metadata.specs.Metadata.{canary_of}
 use Rattle.judge.specs.Judge.{once_laid, admit}

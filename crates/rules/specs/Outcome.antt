@@ -6,7 +6,8 @@ use Rattle.geometry.specs.declared.Layout.{Layout}
 use Rattle.geometry.specs.Layout.{slot_size, slots, slot_start, bitmap_at}
 use Rattle.bitmap.specs.Bitmap.{set_slot, clear_slot}
 use Rattle.answer.specs.declared.Refusal.{Refusal}
-use Rattle.answer.specs.Reply.{Reply, served, refused_by}
+use Rattle.answer.specs.declared.Reply.{Reply}
+use Rattle.answer.specs.Reply.{served, refused_by}
 use Rattle.writing.specs.Overwrite.{overwrite}
 use Rattle.view.specs.declared.View.{View}
 use Rattle.metadata.specs.Metadata.{with_generator, count_of, with_count, canary_of, bitmap_of}

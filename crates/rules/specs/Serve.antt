@@ -1,10 +1,9 @@
 -- Carrying a request out, once it is read.
-use Rattle.std.specs.Prelude.{ℕ, List, [], length}
+use Rattle.std.specs.Prelude.{ℕ, List, [], length, Some, None}
 use Rattle.geometry.specs.declared.Layout.{Layout}
 use Rattle.request.specs.declared.Request.{Request}
 use Rattle.request.specs.declared.Request.TheVariants.{Allocate, Free, Remaining, Copy, Read}
-use Rattle.request.specs.declared.Parsed.{Parsed}
-use Rattle.request.specs.declared.Parsed.TheVariants.{Whole, Malformed}
+use Rattle.request.specs.Parse.{Parsed}
 use Rattle.answer.specs.declared.Refusal.TheVariants.{MalformedRequest}
 use Rattle.rules.specs.Outcome.{Outcome, refused}
 use Rattle.rules.specs.Allocate.{allocate}
@@ -32,5 +31,5 @@ perform G m beside (Read offset count) = read G m offset count (length beside.pa
 
 -- a request that was read, or refused
 abbrev pub act : Layout → List ℕ → Lent → Parsed → Outcome
-act G m beside (Whole request) = perform G m beside request
-act G m beside Malformed = refused MalformedRequest
+act G m beside (Some request) = perform G m beside request
+act G m beside None = refused MalformedRequest

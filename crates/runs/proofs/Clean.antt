@@ -1,5 +1,6 @@
 -- The theorem that an inspection lists nothing where nobody but requests writes: every clear slot holds the canary, as openings leave it and
 -- requests keep it.
+use Rattle.std.specs.Prelude.{Ok, Some, None}
 use Prim.Native.Nat.{ℕ, ◌+◌, ◌^◌, ◌<◌}
 use mathlib.Core.Path.{◌≡◌, refl, sym, ap, ap₂, ◌∙◌}
 use mathlib.Core.Bool.{false, true≢false}
@@ -16,12 +17,9 @@ use Rattle.geometry.specs.Layout.{classes, region_of, layout_of, heap_length, sl
 use Rattle.geometry.proofs.Geometry.{laid, bitmap_after}
 use Rattle.geometry.proofs.Slots.{slot_inside, slot_located, located_at, into_lt}
 use Rattle.request.specs.declared.Request.TheVariants.{Allocate, Free, Remaining, Copy, Read}
-use Rattle.request.specs.Parse.{parse}
-use Rattle.request.specs.declared.Parsed.{Parsed}
-use Rattle.request.specs.declared.Parsed.TheVariants.{Whole, Malformed}
+use Rattle.request.specs.Parse.{parse, Parsed}
 use Rattle.answer.specs.Reply.{served}
 use Rattle.bitmap.specs.Bitmap.{is_set}
-use Rattle.judge.specs.declared.Judged.TheVariants.{Laid}
 use Rattle.judge.specs.Judge.{admit}
 use Rattle.metadata.specs.Metadata.{with_generator, canary_of, bitmap_of}
 use Rattle.canary.specs.Canary.{canary_byte, filled_byte, filled_heap}
@@ -120,17 +118,17 @@ module _ (G : Layout) (m h : List ℕ) (valid : Valid G m) (fits : length h ≡ 
   kept serves f = f refl
 
   act_intact : (beside : Lent) (p : Parsed) → Keeps (act G m beside p)
-  act_intact beside (Whole (Allocate size)) = kept (allocate_comes G m size) (λ e.
+  act_intact beside (Some (Allocate size)) = kept (allocate_comes G m size) (λ e.
       let (class, takes) = allocate_takes G m valid size e in
       taken_intact G m _ (allocate_changes G m valid _ takes) h intact refl)
-  act_intact beside (Whole (Free offset)) = kept (free_comes G m offset) (λ e.
+  act_intact beside (Some (Free offset)) = kept (free_comes G m offset) (λ e.
       let (start, ends) = free_ends G m valid offset e in
       given_intact G m _ (free_changes G m valid ends) h intact fits ends.slot)
-  act_intact beside (Whole (Remaining offset)) = kept (remaining_comes G m offset) (λ e. rw (take-append-drop offset h) intact)
-  act_intact beside (Whole (Copy offset kind)) = kept (copy_comes G m offset kind beside.source) (λ e.
+  act_intact beside (Some (Remaining offset)) = kept (remaining_comes G m offset) (λ e. rw (take-append-drop offset h) intact)
+  act_intact beside (Some (Copy offset kind)) = kept (copy_comes G m offset kind beside.source) (λ e.
       rest_intact G m h intact offset (copy_keeps G m h fits offset kind beside.source e))
-  act_intact beside (Whole (Read offset count)) = kept (read_comes G m offset count (length beside.page)) (λ e. intact)
-  act_intact beside Malformed = intact
+  act_intact beside (Some (Read offset count)) = kept (read_comes G m offset count (length beside.page)) (λ e. intact)
+  act_intact beside None = intact
 
 -- ---- an inspection
 
@@ -174,7 +172,7 @@ module _ (n : ℕ) (region : region_of n ≡ 0 → ⊥) where
 
   kept_unlisted : (t : State) → Kept n t → (list : List ℕ) → inspection t.heap t.metadata list ≡ record { answer = served 0; list = list }
   kept_unlisted t k list =
-      let admitted : admit (length t.heap) t.metadata ≡ Laid (layout_of n) = rw k.fits (valid_admits n region t.metadata k.valid) in
+      let admitted : admit (length t.heap) t.metadata ≡ Ok (layout_of n) = rw k.fits (valid_admits n region t.metadata k.valid) in
       inspection_laid t.heap t.metadata list admitted
       ∙ rw (intact_hits (layout_of n) t.metadata t.heap (k.fits ∙ (laid n).whole region) k.intact, le-ltb (length list) 0 (omega arith))
 

@@ -15,8 +15,7 @@ use Rattle.geometry.specs.Layout.{region_of, layout_of, classes, slots, header, 
 use Rattle.geometry.proofs.Geometry.{laid, bitmap_after}
 use Rattle.bitmap.specs.Bitmap.{is_set, set_slot, clear_slot}
 use Rattle.writing.specs.Overwrite.{overwrite}
-use Rattle.request.specs.declared.Parsed.{Parsed}
-use Rattle.request.specs.Parse.{parse}
+use Rattle.request.specs.Parse.{parse, Parsed}
 use Rattle.metadata.specs.Metadata.{generator_of, with_generator, count_of, with_count, bitmap_of}
 use Rattle.rules.specs.Open.{Setup, fresh}
 use Rattle.rules.specs.Outcome.{Outcome, metadata_after}

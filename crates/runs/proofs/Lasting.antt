@@ -1,4 +1,5 @@
 -- An object is live exactly when some event of the history made it and no later one ended it.
+use Rattle.std.specs.Prelude.{Some, None}
 use Prim.Native.Nat.{ℕ, zero, suc, ◌+◌, ◌<◌}
 use mathlib.Core.Path.{◌≡◌, refl, sym, ap, ◌∙◌}
 use mathlib.Core.Bool.{Bool, true, false, true≢false, cond, ◌&&◌, ◌||◌}
@@ -9,8 +10,7 @@ use lib.Dec.{eqb}
 use lib.ListN.{length}
 use borrow.Author.Tests.{eqb-true, eqb-false, eq-eqb, ne_eqb}
 use Rattle.request.specs.declared.Request.TheVariants.{Allocate, Free, Remaining, Copy, Read}
-use Rattle.request.specs.declared.Parsed.{Parsed}
-use Rattle.request.specs.declared.Parsed.TheVariants.{Whole, Malformed}
+use Rattle.request.specs.Parse.{Parsed}
 use Rattle.geometry.specs.declared.Layout.{Layout}
 use Rattle.geometry.specs.Layout.{class_of}
 use Rattle.runs.specs.Run.{Event}
@@ -85,14 +85,14 @@ module _ (a : Event) (later : List Event) where
           ≡ lasting later (cond t (makes_of G p a.answer.value) []) ++ lasting (a ∷ later) os
 
       go : (t : Bool) (p : Parsed) → eqb a.answer.number 0 ≡ t → a.asked ≡ p → Goal t p
-      go true (Whole (Allocate size)) e f =
-          let made : List Object = makes_of G (Whole (Allocate size)) a.answer.value in
+      go true (Some (Allocate size)) e f =
+          let made : List Object = makes_of G (Some (Allocate size)) a.answer.value in
           lasting_cons later _ os ∙ ap (λ (l : List Object). lasting later made ++ l) (lasting_skip (λ x. rw (e, f)) os)
-      go true (Whole (Free offset)) e f = lasting_free offset (λ x. rw (e, f)) os
-      go true (Whole (Remaining offset)) e f = lasting_skip (λ x. rw (e, f)) os
-      go true (Whole (Copy offset kind)) e f = lasting_skip (λ x. rw (e, f)) os
-      go true (Whole (Read offset count)) e f = lasting_skip (λ x. rw (e, f)) os
-      go true Malformed e f = lasting_skip (λ x. rw (e, f)) os
+      go true (Some (Free offset)) e f = lasting_free offset (λ x. rw (e, f)) os
+      go true (Some (Remaining offset)) e f = lasting_skip (λ x. rw (e, f)) os
+      go true (Some (Copy offset kind)) e f = lasting_skip (λ x. rw (e, f)) os
+      go true (Some (Read offset count)) e f = lasting_skip (λ x. rw (e, f)) os
+      go true None e f = lasting_skip (λ x. rw (e, f)) os
       go false p e f = lasting_skip (λ x. rw e) os
 
 module _ (G : Layout) where
@@ -120,13 +120,13 @@ ends_frees : (x : ℕ) (a : Event) → ends x a ≡ true → Frees x a
 ends_frees x a = go (eqb a.answer.number 0) a.asked refl refl
   where
     go : (t : Bool) (p : Parsed) → eqb a.answer.number 0 ≡ t → a.asked ≡ p → t && asks_free x p ≡ true → Frees x a
-    go true (Whole (Allocate size)) e f h = absurd (true≢false (sym h))
-    go true (Whole (Free offset)) e f h =
-        record { asked = f ∙ ap (λ (y : ℕ). Whole (Free y)) (eqb-true offset x h); served = eqb-true a.answer.number 0 e }
-    go true (Whole (Remaining offset)) e f h = absurd (true≢false (sym h))
-    go true (Whole (Copy offset kind)) e f h = absurd (true≢false (sym h))
-    go true (Whole (Read offset count)) e f h = absurd (true≢false (sym h))
-    go true Malformed e f h = absurd (true≢false (sym h))
+    go true (Some (Allocate size)) e f h = absurd (true≢false (sym h))
+    go true (Some (Free offset)) e f h =
+        record { asked = f ∙ ap (λ (y : ℕ). Some (Free y)) (eqb-true offset x h); served = eqb-true a.answer.number 0 e }
+    go true (Some (Remaining offset)) e f h = absurd (true≢false (sym h))
+    go true (Some (Copy offset kind)) e f h = absurd (true≢false (sym h))
+    go true (Some (Read offset count)) e f h = absurd (true≢false (sym h))
+    go true None e f h = absurd (true≢false (sym h))
     go false p e f h = absurd (true≢false (sym h))
 
 -- and so a history does where one of its events is
@@ -175,7 +175,7 @@ module _ (G : Layout) (a : Event) (later : List Event) where
     where
       go : (t : Bool) (p : Parsed) → eqb a.answer.number 0 ≡ t → a.asked ≡ p
           → At (lasting later (cond t (makes_of G p a.answer.value) [])) k o → (k ≡ 0) × Makes G a o × NotFreed o.start later
-      go true (Whole (Allocate size)) e f q =
+      go true (Some (Allocate size)) e f q =
           let p : Object = record { start = a.answer.value; class = class_of G size } in
           let (first, same, kept) = lasting_one later p o k q in
           let makes : Makes G a o = record {
@@ -186,11 +186,11 @@ module _ (G : Layout) (a : Event) (later : List Event) where
             class = ap (λ (r : Object). r.class) same;
           } in
           (first, makes, freed_nowhere o.start later (rw (ap (λ (r : Object). r.start) same) at kept))
-      go true (Whole (Free offset)) e f q = absurd (at_nowhere q)
-      go true (Whole (Remaining offset)) e f q = absurd (at_nowhere q)
-      go true (Whole (Copy offset kind)) e f q = absurd (at_nowhere q)
-      go true (Whole (Read offset count)) e f q = absurd (at_nowhere q)
-      go true Malformed e f q = absurd (at_nowhere q)
+      go true (Some (Free offset)) e f q = absurd (at_nowhere q)
+      go true (Some (Remaining offset)) e f q = absurd (at_nowhere q)
+      go true (Some (Copy offset kind)) e f q = absurd (at_nowhere q)
+      go true (Some (Read offset count)) e f q = absurd (at_nowhere q)
+      go true None e f q = absurd (at_nowhere q)
       go false p e f q = absurd (at_nowhere q)
 
   -- an event's object that is not ended, and those of the events after it

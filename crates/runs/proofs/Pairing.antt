@@ -1,4 +1,5 @@
 -- One request of each of two runs from the same metadata: the steps are equal exactly when the requests pair.
+use Rattle.std.specs.Prelude.{Some}
 use Prim.Native.Nat.{ℕ}
 use mathlib.Core.Path.{◌≡◌, refl, sym, ap, subst, ◌∙◌}
 use mathlib.Core.List.{List}
@@ -6,8 +7,7 @@ use Rattle.geometry.specs.declared.Layout.{Layout}
 use Rattle.geometry.specs.Layout.{class_of}
 use Rattle.request.specs.declared.Request.{Request}
 use Rattle.request.specs.declared.Request.TheVariants.{Allocate}
-use Rattle.request.specs.declared.Parsed.{Parsed}
-use Rattle.request.specs.declared.Parsed.TheVariants.{Whole}
+use Rattle.request.specs.Parse.{Parsed}
 use Rattle.rules.specs.Outcome.{Outcome, reply, metadata_after}
 use Rattle.rules.specs.Allocate.{taken}
 use Rattle.rules.specs.Serve.{Lent, act}
@@ -19,13 +19,13 @@ use Rattle.runs.proofs.Results.{Change, Result, refusal, allocation, freeing, me
 
 module _ (G : Layout) (m : List ℕ) where
   -- a served allocation goes by the class alone, and a measuring changes nothing
-  allocation_class : {o : Outcome} {x : Change} (size : ℕ) → Result G m (Whole (Allocate size)) o x → (reply G o).number ≡ 0
+  allocation_class : {o : Outcome} {x : Change} (size : ℕ) → Result G m (Some (Allocate size)) o x → (reply G o).number ≡ 0
       → o ≡ taken G m (class_of G size)
   allocation_class size (refusal _ r) e = absurd (refusal_number r e)
   allocation_class size (allocation _ c found t) e = cc
   allocation_class size (measuring _ h tells) e = absurd h
 
-  measuring_keeps : {o : Outcome} {x : Change} (q : Request) → Result G m (Whole q) o x → Measures q → metadata_after G m o ≡ m
+  measuring_keeps : {o : Outcome} {x : Change} (q : Request) → Result G m (Some q) o x → Measures q → metadata_after G m o ≡ m
   measuring_keeps q (refusal _ r) h = refl
   measuring_keeps q (allocation size c found t) h = absurd h
   measuring_keeps q (freeing offset start t) h = absurd h
@@ -46,13 +46,13 @@ module _ (G : Layout) (m : List ℕ) where
     pub pair_steps : Pair G (event_by G p (act G m lent p)) (event_by G q (act G m lent' q))
         → step_by G m (act G m lent p) ≡ step_by G m (act G m lent' q)
     pair_steps (allocations s t e e' c h k) =
-        let left = allocation_class s (result G m valid lent (Whole (Allocate s))).1 (rw e at h) in
-        let right = allocation_class t (result G m valid lent' (Whole (Allocate t))).1 (rw e' at k) in
+        let left = allocation_class s (result G m valid lent (Some (Allocate s))).1 (rw e at h) in
+        let right = allocation_class t (result G m valid lent' (Some (Allocate t))).1 (rw e' at k) in
         rw (e, e', left, right, c)
     pair_steps (frees offset e e' h k) = rw (e, e')
     pair_steps (measurings a b e e' h k s s' v) =
-        let left : metadata_after G m (act G m lent p) ≡ m = rw e (measuring_keeps a (result G m valid lent (Whole a)).1 h) in
-        let right : metadata_after G m (act G m lent' q) ≡ m = rw e' (measuring_keeps b (result G m valid lent' (Whole b)).1 k) in
+        let left : metadata_after G m (act G m lent p) ≡ m = rw e (measuring_keeps a (result G m valid lent (Some a)).1 h) in
+        let right : metadata_after G m (act G m lent' q) ≡ m = rw e' (measuring_keeps b (result G m valid lent' (Some b)).1 k) in
         λ i. record { answer = record { number = (s ∙ sym s') i; value = v i }; metadata = (left ∙ sym right) i }
     pair_steps (refusals h e) =
         let left = outcome_refused G m (act G m lent p) h in

@@ -1,4 +1,5 @@
 -- What a request comes to, and what that does to the slots.
+use Rattle.std.specs.Prelude.{Ok, Some, None}
 use Prim.Native.Nat.{ℕ, ◌+◌, ◌<◌}
 use mathlib.Core.Path.{◌≡◌, refl}
 use mathlib.Core.List.{List}
@@ -11,10 +12,8 @@ use Rattle.geometry.specs.declared.Layout.{Layout}
 use Rattle.geometry.specs.Layout.{region_of, layout_of, class_of, slots, slot_start}
 use Rattle.request.specs.declared.Request.{Request}
 use Rattle.request.specs.declared.Request.TheVariants.{Allocate, Free, Remaining, Copy, Read}
-use Rattle.request.specs.declared.Parsed.{Parsed}
-use Rattle.request.specs.declared.Parsed.TheVariants.{Whole, Malformed}
+use Rattle.request.specs.Parse.{Parsed}
 use Rattle.answer.specs.declared.Refusal.{Refusal}
-use Rattle.judge.specs.declared.Judged.TheVariants.{Laid}
 use Rattle.judge.specs.Judge.{admit}
 use Rattle.rules.specs.Outcome.{Outcome, refused, allocated, freed, reply, metadata_after}
 use Rattle.rules.specs.Allocate.{taken}
@@ -43,9 +42,9 @@ pub record Tells (G : Layout) (m : List ℕ) (o : Outcome) : Type 0 where
 pub data Result (G : Layout) (m : List ℕ) : Parsed → Outcome → Change → Type 0 where
   refusal : (p : Parsed) (r : Refusal) → Result G m p (refused r) none
   allocation : (size : ℕ) {c i : ℕ} {g : Generator} → c ≡ class_of G size → allocated c i g ≡ taken G m c → Takes G m c i
-      → Result G m (Whole (Allocate size)) (allocated c i g) (turn 1 c i)
-  freeing : (offset : ℕ) {c i : ℕ} → offset ≡ slot_start G c i → Ends G m c i → Result G m (Whole (Free offset)) (freed c i) (turn 0 c i)
-  measuring : (q : Request) → Measures q → {o : Outcome} → Tells G m o → Result G m (Whole q) o none
+      → Result G m (Some (Allocate size)) (allocated c i g) (turn 1 c i)
+  freeing : (offset : ℕ) {c i : ℕ} → offset ≡ slot_start G c i → Ends G m c i → Result G m (Some (Free offset)) (freed c i) (turn 0 c i)
+  measuring : (q : Request) → Measures q → {o : Outcome} → Tells G m o → Result G m (Some q) o none
 
 -- an outcome's step, and its event
 abbrev pub step_by : Layout → List ℕ → Outcome → Step
@@ -62,19 +61,19 @@ module _ (G : Layout) (m : List ℕ) where
 
   -- every request has a result
   pub result : Valid G m → (lent : Lent) (p : Parsed) → (x : Change) × Result G m p (act G m lent p) x
-  result valid lent (Whole (Allocate size)) =
+  result valid lent (Some (Allocate size)) =
       served_or_refused _ (allocate_comes G m size)
       (λ e. let (class, takes) = allocate_takes G m valid size e in (turn 1 _ _, allocation size class refl takes))
-  result valid lent (Whole (Free offset)) =
+  result valid lent (Some (Free offset)) =
       served_or_refused _ (free_comes G m offset)
       (λ e. let (start, ends) = free_ends G m valid offset e in (turn 0 _ _, freeing offset start ends))
-  result valid lent (Whole (Remaining offset)) =
+  result valid lent (Some (Remaining offset)) =
       served_or_refused _ (remaining_comes G m offset) (λ e. (none, measuring _ tt (record { served = refl; kept = refl })))
-  result valid lent (Whole (Copy offset kind)) =
+  result valid lent (Some (Copy offset kind)) =
       served_or_refused _ (copy_comes G m offset kind lent.source) (λ e. (none, measuring _ tt (record { served = refl; kept = refl })))
-  result valid lent (Whole (Read offset count)) =
+  result valid lent (Some (Read offset count)) =
       served_or_refused _ (read_comes G m offset count (length lent.page)) (λ e. (none, measuring _ tt (record { served = refl; kept = refl })))
-  result valid lent Malformed = (none, refusal Malformed _)
+  result valid lent None = (none, refusal None _)
 
 -- ---- a change, in the metadata
 
@@ -121,7 +120,7 @@ module _ (G : Layout) (m m' : List ℕ) where
 
 module _ (n : ℕ) (region : region_of n ≡ 0 → ⊥) (m : List ℕ) (valid : Valid (layout_of n) m) where
   -- it is admitted, and so acted on
-  pub valid_admits : admit n m ≡ Laid (layout_of n)
+  pub valid_admits : admit n m ≡ Ok (layout_of n)
   valid_admits = admit_laid n m (right_lengths n (length m) region valid.fits) (none_over (layout_of n) m valid.few)
 
   pub valid_acts : (beside : Lent) (p : Parsed) → let G = layout_of n in serving n m beside p ≡ called_by G m (act G m beside p)

@@ -1,5 +1,6 @@
 -- Examples of the words that the theorems over runs are made of: what they hold of, and near misses of which they do not
 -- hold.
+use Rattle.std.specs.Prelude.{Some}
 use Prim.Native.Nat.{ℕ}
 use mathlib.Core.Path.{◌≡◌, refl, sym}
 use mathlib.Core.List.{List, [], ◌∷◌}
@@ -10,7 +11,6 @@ use Rattle.geometry.specs.Layout.{class_of, slot_size, slot_start}
 use Rattle.request.specs.declared.Request.{Request}
 use Rattle.request.specs.declared.Request.TheVariants.{Allocate, Free, Remaining, Copy, Read}
 use Rattle.request.specs.declared.Kind.TheVariants.{Bytes}
-use Rattle.request.specs.declared.Parsed.TheVariants.{Whole}
 use Rattle.answer.specs.declared.Refusal.TheVariants.{CorruptMetadata}
 use Rattle.rules.specs.Serve.{Lent, lent, lent_with}
 use Rattle.runs.specs.Run.{Entry, HeapsOfLength, Event}
@@ -24,7 +24,7 @@ use Rattle.runs.proofs.Traits.{pair_trait}
 
 -- a request that was read, and its answer
 abbrev event : Request → ℕ → ℕ → Event
-event q number value = record { asked = Whole q; answer = record { number = number; value = value } }
+event q number value = record { asked = Some q; answer = record { number = number; value = value } }
 
 -- a free ends an object, and the next allocation there makes another; a refused free and a measuring change nothing
 live_then_freed : live G [] (event (Allocate 5) 0 640 ∷ event (Free 640) 0 8 ∷ []) ≡ []

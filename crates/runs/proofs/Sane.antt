@@ -1,4 +1,5 @@
 -- Metadata whose counts are those of its bitmaps are found corrupt by no request.
+use Rattle.std.specs.Prelude.{Some, None}
 use Prim.Native.Nat.{ℕ, ◌/◌, ◌<◌}
 use mathlib.Core.Path.{◌≡◌, refl}
 use mathlib.Core.Bool.{Bool, true, false, cond, not}
@@ -15,8 +16,7 @@ use Rattle.bitmap.specs.Bitmap.{count_set}
 use Rattle.bitmap.proofs.Counted.{count_some}
 use Rattle.bitmap.proofs.Slot.{is_set_lem}
 use Rattle.request.specs.declared.Request.TheVariants.{Allocate, Free, Remaining, Copy, Read}
-use Rattle.request.specs.declared.Parsed.{Parsed}
-use Rattle.request.specs.declared.Parsed.TheVariants.{Whole, Malformed}
+use Rattle.request.specs.Parse.{Parsed}
 use Rattle.answer.specs.declared.Refusal.{Refusal}
 use Rattle.answer.specs.declared.Refusal.TheVariants.{UnsupportedSize, ClassTooSmall, ClassAtCapacity, OutOfRange}
 use Rattle.answer.specs.declared.Refusal.TheVariants.{NotASlotStart, NotAllocated, CorruptMetadata}
@@ -89,9 +89,9 @@ module _ (G : Layout) where
     -- no other request looks
     pub act_sane : (lent : Lent) (p : Parsed) → Sane (act G m lent p)
     unfolding remaining copy read
-    act_sane lent (Whole (Allocate size)) = allocate_sane size
-    act_sane lent (Whole (Free offset)) = free_sane offset
-    act_sane lent (Whole (Remaining offset)) = inside offset (record { other = λ e. omega (arith, e) })
-    act_sane lent (Whole (Copy offset kind)) = inside offset (record { other = λ e. omega (arith, e) })
-    act_sane lent (Whole (Read offset count)) = inside offset (record { other = λ e. omega (arith, e) })
-    act_sane lent Malformed = record { other = λ e. omega (arith, e) }
+    act_sane lent (Some (Allocate size)) = allocate_sane size
+    act_sane lent (Some (Free offset)) = free_sane offset
+    act_sane lent (Some (Remaining offset)) = inside offset (record { other = λ e. omega (arith, e) })
+    act_sane lent (Some (Copy offset kind)) = inside offset (record { other = λ e. omega (arith, e) })
+    act_sane lent (Some (Read offset count)) = inside offset (record { other = λ e. omega (arith, e) })
+    act_sane lent None = record { other = λ e. omega (arith, e) }

@@ -1,4 +1,5 @@
 -- The live objects are the set slots, and are counted.
+use Rattle.std.specs.Prelude.{Some}
 use Prim.Native.Nat.{ℕ, ◌+◌, ◌*◌, ◌≤◌, ◌<◌}
 use mathlib.Core.Path.{◌≡◌, refl, sym, subst, ◌∙◌}
 use mathlib.Core.List.{List, [], ◌∷◌}
@@ -13,8 +14,7 @@ use Rattle.bitmap.specs.Bitmap.{count_set}
 use Rattle.bitmap.proofs.Counted.{count_none, count_same, count_but_one}
 use Rattle.request.specs.declared.Request.{Request}
 use Rattle.request.specs.declared.Request.TheVariants.{Allocate, Free, Remaining, Copy, Read}
-use Rattle.request.specs.declared.Parsed.{Parsed}
-use Rattle.request.specs.declared.Parsed.TheVariants.{Whole}
+use Rattle.request.specs.Parse.{Parsed}
 use Rattle.answer.specs.Reply.{number_of}
 use Rattle.metadata.specs.Metadata.{count_of, bitmap_of}
 use Rattle.rules.specs.Open.{Setup, fresh}
@@ -60,7 +60,7 @@ fresh_tracks G s =
     }
 
 -- a measuring leaves the objects
-measuring_leaves : (G : Layout) (os : List Object) (q : Request) (value : ℕ) → Measures q → served_after G os (Whole q) value ≡ os
+measuring_leaves : (G : Layout) (os : List Object) (q : Request) (value : ℕ) → Measures q → served_after G os (Some q) value ≡ os
 measuring_leaves G os (Allocate size) value h = absurd h
 measuring_leaves G os (Free offset) value h = absurd h
 measuring_leaves G os (Remaining offset) value h = refl

@@ -1,4 +1,5 @@
 -- Two events are a pair exactly when they have one trait, and runs pair off exactly when their traits are equal.
+use Rattle.std.specs.Prelude.{Ok, Err, Some, None}
 use Prim.Native.Nat.{ℕ, zero, suc}
 use mathlib.Core.Path.{◌≡◌, refl, sym, ap, ◌∙◌}
 use mathlib.Core.Bool.{Bool, true, false, cond}
@@ -10,16 +11,12 @@ use lib.ListN.{length}
 use borrow.Author.Tests.{eqb-true, eqb-false, ne_eqb}
 use Rattle.request.specs.declared.Request.{Request}
 use Rattle.request.specs.declared.Request.TheVariants.{Allocate, Free, Remaining, Copy, Read}
-use Rattle.request.specs.declared.Parsed.{Parsed}
-use Rattle.request.specs.declared.Parsed.TheVariants.{Whole, Malformed}
 use Rattle.geometry.specs.declared.Layout.{Layout}
 use Rattle.geometry.specs.Layout.{class_of}
 use Rattle.answer.specs.declared.Refusal.TheVariants.{MalformedRequest}
 use Rattle.answer.proofs.Numbers.{refusal_number}
-use Rattle.request.specs.Parse.{parse}
-use Rattle.judge.specs.declared.Judged.{Judged}
-use Rattle.judge.specs.declared.Judged.TheVariants.{Laid, Unfit}
-use Rattle.judge.specs.Judge.{admit}
+use Rattle.request.specs.Parse.{parse, Parsed}
+use Rattle.judge.specs.Judge.{admit, Judged}
 use Rattle.rules.specs.Serve.{Lent}
 use Rattle.rules.specs.Call.{serve}
 use Rattle.runs.specs.Run.{Entry, Event, history, step_of}
@@ -31,9 +28,9 @@ use Rattle.runs.proofs.Places.{at_nowhere, at_first}
 
 -- what a trait says of an event
 abbrev HasTrait : Layout → Event → Trait → Type 0
-HasTrait G a (allocates_in c) = (s : ℕ) × (a.asked ≡ Whole (Allocate s)) × (class_of G s ≡ c) × Served a
-HasTrait G a (frees_at x) = (a.asked ≡ Whole (Free x)) × Served a
-HasTrait G a (measures v) = (q : Request) × (a.asked ≡ Whole q) × Measures q × Served a × (a.answer.value ≡ v)
+HasTrait G a (allocates_in c) = (s : ℕ) × (a.asked ≡ Some (Allocate s)) × (class_of G s ≡ c) × Served a
+HasTrait G a (frees_at x) = (a.asked ≡ Some (Free x)) × Served a
+HasTrait G a (measures v) = (q : Request) × (a.asked ≡ Some q) × Measures q × Served a × (a.answer.value ≡ v)
 HasTrait G a (refused_with n) = (Served a → ⊥) × (a.answer.number ≡ n)
 
 module _ (G : Layout) where
@@ -43,12 +40,12 @@ module _ (G : Layout) where
     where
       go : (t : Bool) (p : Parsed) → eqb a.answer.number 0 ≡ t → a.asked ≡ p
           → HasTrait G a (cond t (served_trait G p a.answer.value) (refused_with a.answer.number))
-      go true (Whole (Allocate size)) e f = (size, f, refl, eqb-true a.answer.number 0 e)
-      go true (Whole (Free offset)) e f = (f, eqb-true a.answer.number 0 e)
-      go true (Whole (Remaining offset)) e f = (Remaining offset, f, tt, eqb-true a.answer.number 0 e, refl)
-      go true (Whole (Copy offset kind)) e f = (Copy offset kind, f, tt, eqb-true a.answer.number 0 e, refl)
-      go true (Whole (Read offset count)) e f = (Read offset count, f, tt, eqb-true a.answer.number 0 e, refl)
-      go true Malformed e f = absurd (refuses f (eqb-true a.answer.number 0 e))
+      go true (Some (Allocate size)) e f = (size, f, refl, eqb-true a.answer.number 0 e)
+      go true (Some (Free offset)) e f = (f, eqb-true a.answer.number 0 e)
+      go true (Some (Remaining offset)) e f = (Remaining offset, f, tt, eqb-true a.answer.number 0 e, refl)
+      go true (Some (Copy offset kind)) e f = (Copy offset kind, f, tt, eqb-true a.answer.number 0 e, refl)
+      go true (Some (Read offset count)) e f = (Read offset count, f, tt, eqb-true a.answer.number 0 e, refl)
+      go true None e f = absurd (refuses f (eqb-true a.answer.number 0 e))
       go false p e f = (eqb-false a.answer.number 0 e, refl)
 
   -- two events with one trait are a pair
@@ -58,7 +55,7 @@ module _ (G : Layout) where
   one_trait a b (measures v) (q, e, o, h, value) (r, f, p, k, value') = measurings q r e f o p h k (value ∙ sym value')
   one_trait a b (refused_with n) (h, number) (k, number') = refusals h (number ∙ sym number')
 
-  measuring_trait : (q : Request) (value : ℕ) → Measures q → served_trait G (Whole q) value ≡ measures value
+  measuring_trait : (q : Request) (value : ℕ) → Measures q → served_trait G (Some q) value ≡ measures value
   measuring_trait (Allocate size) value h = absurd h
   measuring_trait (Free offset) value h = absurd h
   measuring_trait (Remaining offset) value h = refl
@@ -90,12 +87,12 @@ module _ (G : Layout) where
       (λ (p, ps). cons-eq-cons.1 (to p, there ps), λ e. let (p, ps) = cons-eq-cons.0 e in (from p, back ps))
 
 -- no run serves a malformed request
-serve_refuses : (n : ℕ) (m request : List ℕ) (beside : Lent) → parse request ≡ Malformed → (serve n m request beside).answer.number ≡ 0 → ⊥
+serve_refuses : (n : ℕ) (m request : List ℕ) (beside : Lent) → parse request ≡ None → (serve n m request beside).answer.number ≡ 0 → ⊥
 serve_refuses n m request beside malformed = go (admit n m) refl
   where
     go : (j : Judged) → admit n m ≡ j → (serve n m request beside).answer.number ≡ 0 → ⊥
-    go (Unfit r) e = rw (serving_unfit n m beside (parse request) e) (refusal_number r)
-    go (Laid G) e = rw (serving_acts n m beside (parse request) e, malformed) (refusal_number MalformedRequest)
+    go (Err r) e = rw (serving_unfit n m beside (parse request) e) (refusal_number r)
+    go (Ok G) e = rw (serving_acts n m beside (parse request) e, malformed) (refusal_number MalformedRequest)
 
 pub history_refuses : (m : List ℕ) (es : List Entry) (i : ℕ) (a : Event) → At (history m es) i a → Refuses a
 unfolding history

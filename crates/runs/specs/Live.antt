@@ -1,8 +1,7 @@
 -- Live objects, from requests and answers alone.
-use Rattle.std.specs.Prelude.{ℕ, ◌+◌, ◌*◌, ◌≤◌, ◌<◌, ◌≡◌, Bool, true, false, cond, ◌&&◌, List, [], ◌∷◌, leb, ltb, eqb}
+use Rattle.std.specs.Prelude.{ℕ, ◌+◌, ◌*◌, ◌≤◌, ◌<◌, ◌≡◌, Bool, true, false, cond, ◌&&◌, List, [], ◌∷◌, leb, ltb, eqb, Some, None}
 use Rattle.request.specs.declared.Request.TheVariants.{Allocate, Free, Remaining, Copy, Read}
-use Rattle.request.specs.declared.Parsed.{Parsed}
-use Rattle.request.specs.declared.Parsed.TheVariants.{Whole, Malformed}
+use Rattle.request.specs.Parse.{Parsed}
 use Rattle.geometry.specs.declared.Layout.{Layout}
 use Rattle.geometry.specs.Layout.{classes, class_of, slot_size, slots}
 use Rattle.bitmap.specs.Bitmap.{count_set}
@@ -23,12 +22,12 @@ without offset (o ∷ os) = elim (eqb o.start offset) [ true ↦ without offset 
 
 -- a served allocation makes an object, and a served free ends what starts at its offset
 abbrev pub served_after : Layout → List Object → Parsed → ℕ → List Object
-served_after G os (Whole (Allocate size)) value = record { start = value; class = class_of G size } ∷ os
-served_after G os (Whole (Free offset)) value = without offset os
-served_after G os (Whole (Remaining offset)) value = os
-served_after G os (Whole (Copy offset kind)) value = os
-served_after G os (Whole (Read offset count)) value = os
-served_after G os Malformed value = os
+served_after G os (Some (Allocate size)) value = record { start = value; class = class_of G size } ∷ os
+served_after G os (Some (Free offset)) value = without offset os
+served_after G os (Some (Remaining offset)) value = os
+served_after G os (Some (Copy offset kind)) value = os
+served_after G os (Some (Read offset count)) value = os
+served_after G os None value = os
 
 unfoldable pub objects_after : Layout → List Object → Event → List Object
 objects_after G os a = cond (eqb a.answer.number 0) (served_after G os a.asked a.answer.value) os

@@ -1,9 +1,8 @@
 -- Runs of requests (the paper's runs of tickets): each request is lent a heap of the length opened with, holding any
 -- bytes whatever, and the metadata as the request before left it.
 use Rattle.std.specs.Prelude.{ℕ, ◌≡◌, List, [], ◌∷◌, length}
-use Rattle.request.specs.declared.Parsed.{Parsed}
-use Rattle.request.specs.Parse.{parse}
-use Rattle.answer.specs.Reply.{Reply}
+use Rattle.request.specs.Parse.{parse, Parsed}
+use Rattle.answer.specs.declared.Reply.{Reply}
 use Rattle.rules.specs.Serve.{Lent}
 use Rattle.rules.specs.Call.{Call, serve}
 

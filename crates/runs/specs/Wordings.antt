@@ -1,6 +1,6 @@
 -- The theorems' words once more, each said another way: by places in lists, and by filters. proofs/Wordings.antt proves
 -- that the two ways say the same.
-use Rattle.std.specs.Prelude.{ℕ, ◌+◌, ◌/◌, ◌%◌, ◌^◌, ◌≤◌, ◌<◌, ◌≡◌, Bool, true, false, cond, ◌&&◌, ◌||◌, ◌⊎◌, eqb, length, get_or}
+use Rattle.std.specs.Prelude.{ℕ, ◌+◌, ◌/◌, ◌%◌, ◌^◌, ◌≤◌, ◌<◌, ◌≡◌, Bool, true, false, cond, ◌&&◌, ◌||◌, ◌⊎◌, eqb, length, get_or, Some, None}
 use Rattle.std.proofs.Math.Option.{some}
 use mathlib.Core.List.{List, [], ◌∷◌, ◌++◌, filter}
 use mathlib.Core.Logic.Dec
@@ -8,8 +8,7 @@ use Rattle.std.proofs.Math.Decide.{ℕ_discrete, dec_le, dec_lt}
 use Rattle.std.proofs.Math.ListN.{get_elem?}
 use Rattle.search.specs.Those.{those}
 use Rattle.request.specs.declared.Request.TheVariants.{Allocate, Free, Remaining, Copy, Read}
-use Rattle.request.specs.declared.Parsed.{Parsed}
-use Rattle.request.specs.declared.Parsed.TheVariants.{Whole, Malformed}
+use Rattle.request.specs.Parse.{Parsed}
 use Rattle.geometry.specs.declared.Layout.{Layout}
 use Rattle.geometry.specs.Layout.{classes, class_of, slot_size, slots, bitmap_at}
 use Rattle.answer.specs.declared.Refusal.{Refusal}
@@ -80,12 +79,12 @@ pub data Trait : Type 0 where
 
 -- of a served event; no malformed request is served
 abbrev pub served_trait : Layout → Parsed → ℕ → Trait
-served_trait G (Whole (Allocate size)) value = allocates_in (class_of G size)
-served_trait G (Whole (Free offset)) value = frees_at offset
-served_trait G (Whole (Remaining offset)) value = measures value
-served_trait G (Whole (Copy offset kind)) value = measures value
-served_trait G (Whole (Read offset count)) value = measures value
-served_trait G Malformed value = refused_with 0
+served_trait G (Some (Allocate size)) value = allocates_in (class_of G size)
+served_trait G (Some (Free offset)) value = frees_at offset
+served_trait G (Some (Remaining offset)) value = measures value
+served_trait G (Some (Copy offset kind)) value = measures value
+served_trait G (Some (Read offset count)) value = measures value
+served_trait G None value = refused_with 0
 
 unfoldable pub trait : Layout → Event → Trait
 trait G a =
@@ -93,21 +92,21 @@ trait G a =
 
 -- a malformed request is not served
 abbrev pub Refuses : Event → Type 0
-Refuses a = a.asked ≡ Malformed → Served a → ⊥
+Refuses a = a.asked ≡ None → Served a → ⊥
 
 -- ---- histories: live
 
 -- an event makes an object: a served allocation in its class, whose value is its start
 pub record Makes (G : Layout) (a : Event) (o : Object) : Type 0 where
   pub size : ℕ
-  pub asked : a.asked ≡ Whole (Allocate size)
+  pub asked : a.asked ≡ Some (Allocate size)
   pub served : Served a
   pub starts : a.answer.value ≡ o.start
   pub class : class_of G size ≡ o.class
 
 -- an event ends the objects that start at x: a served free there
 pub record Frees (x : ℕ) (a : Event) : Type 0 where
-  pub asked : a.asked ≡ Whole (Free x)
+  pub asked : a.asked ≡ Some (Free x)
   pub served : Served a
 
 -- event i of a history makes an object, and no later event ends it
@@ -119,21 +118,21 @@ pub record LiveFrom (G : Layout) (past : List Event) (i : ℕ) (o : Object) : Ty
 
 -- the object that a request makes, if served
 abbrev pub makes_of : Layout → Parsed → ℕ → List Object
-makes_of G (Whole (Allocate size)) value = record { start = value; class = class_of G size } ∷ []
-makes_of G (Whole (Free offset)) value = []
-makes_of G (Whole (Remaining offset)) value = []
-makes_of G (Whole (Copy offset kind)) value = []
-makes_of G (Whole (Read offset count)) value = []
-makes_of G Malformed value = []
+makes_of G (Some (Allocate size)) value = record { start = value; class = class_of G size } ∷ []
+makes_of G (Some (Free offset)) value = []
+makes_of G (Some (Remaining offset)) value = []
+makes_of G (Some (Copy offset kind)) value = []
+makes_of G (Some (Read offset count)) value = []
+makes_of G None value = []
 
 -- whether a request frees at x, if served
 abbrev pub asks_free : ℕ → Parsed → Bool
-asks_free x (Whole (Allocate size)) = false
-asks_free x (Whole (Free offset)) = eqb offset x
-asks_free x (Whole (Remaining offset)) = false
-asks_free x (Whole (Copy offset kind)) = false
-asks_free x (Whole (Read offset count)) = false
-asks_free x Malformed = false
+asks_free x (Some (Allocate size)) = false
+asks_free x (Some (Free offset)) = eqb offset x
+asks_free x (Some (Remaining offset)) = false
+asks_free x (Some (Copy offset kind)) = false
+asks_free x (Some (Read offset count)) = false
+asks_free x None = false
 
 -- the object that an event makes, if any, and whether an event ends the objects that start at x
 abbrev pub made_by : Layout → Event → List Object

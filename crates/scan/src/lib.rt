@@ -4,22 +4,8 @@
 ghost use Rattle.std.specs.Prelude.{◌≡◌, ◌+◌, ◌≤◌, length};
 ghost use Rattle.scan.specs.Bytes.{slice, index_of};
 
-// The first place of a byte from `from` on, or `to` where it is nowhere before that.
-fn find_within(bytes: &[u8], from: usize, to: usize, byte: u8) -> usize
-    requires ordered { from ≤ to }
-    requires within { to ≤ length bytes.now }
-    ensures place { result ≡ from + index_of byte (slice from to bytes.now) }
-    ensures bounded { result ≤ to }
-{
-    for at in from..to {
-        if bytes[at] == byte {
-            return at;
-        }
-    }
-    to
-}
-
-// The same for any places: the part from `from` up to `to` is looked at as far as it is there.
+// The first place of a byte in the part from `from` up to `to`, as far as that is there; where the part ends, if it is
+// nowhere in it: the clause `place` says so, and so it is no Option.
 pub fn find(bytes: &[u8], from: usize, to: usize, byte: u8) -> usize
     ensures place { result ≡ from + index_of byte (slice from to bytes.now) }
     ensures bounded { from ≤ to → result ≤ to }
@@ -28,5 +14,8 @@ pub fn find(bytes: &[u8], from: usize, to: usize, byte: u8) -> usize
     if end < from {
         return from;
     }
-    find_within(bytes, from, end, byte)
+    match bytes[from..end].iter().position(|b| *b == byte) {
+        Some(index) => from + index,
+        None => end,
+    }
 }

@@ -1,9 +1,8 @@
 -- The class of a size by steps of eight bytes: what the table holds, and that a size rounded up keeps its class.
-use Prim.Native.Nat.{ℕ, ◌+◌, ◌*◌, ◌/◌, ◌%◌, ◌≤◌, ◌<◌}
+use Prim.Native.Nat.{ℕ, ◌+◌, ◌*◌, ◌/◌, ◌≤◌, ◌<◌}
 use mathlib.Core.Path.{◌≡◌, refl, sym, ap, fun_ext, ◌∙◌}
 use mathlib.Core.Bool.{Bool, true}
 use mathlib.Core.List.{List}
-use native.Mathlib.Nat.{mod-eq_of_lt}
 use native.Mathlib.Decide.{dec_le, dec_lt}
 use native.Mathlib.Omega.{arith}
 use lib.ListN.{get_or}
@@ -19,11 +18,6 @@ use Rattle.sizes.proofs.Sizes.{holds, usual_size_of, usual_size_past}
 pub entry_at : {table : List ℕ} (step : ℕ) → table ≡ tabulate (λ i. usual_class (8 * (i + 1))) 0 2048 → step < 2048
     → get_or table step 0 ≡ usual_class (8 * (step + 1))
 entry_at step e h = rw e (tabulate_at (λ i. usual_class (8 * (i + 1))) 0 2048 step h)
-
--- what the index can reach, it reaches as it is
-pub entry_reached : (step reach : ℕ) {r : ℕ} → r ≡ usual_class (8 * (step % reach + 1)) → step < reach
-    → r ≡ usual_class (8 * (step + 1))
-entry_reached step reach e h = rw (mod-eq_of_lt h) at e
 
 -- slots are whole steps
 whole_steps : (c : ℕ) → usual_size c ≡ 8 * (usual_size c / 8)

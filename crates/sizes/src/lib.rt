@@ -3,11 +3,10 @@
 
 mod table;
 
-ghost use Rattle.std.specs.Prelude.{◌≡◌, ◌+◌, ◌*◌, ◌%◌, ◌<◌};
+ghost use Rattle.std.specs.Prelude.{◌≡◌, ◌+◌, ◌*◌, ◌%◌, ◌<◌, ◌≤◌};
 ghost use Rattle.search.specs.Tabulate.{tabulate};
 ghost use Rattle.sizes.specs.Sizes.{usual_size, usual_class};
 
-use numbers::wide;
 use table::{CLASS_OF_STEP, STEPS};
 
 pub const CLASSES: usize = 12;
@@ -33,27 +32,15 @@ fn entries() -> [u8; STEPS]
     CLASS_OF_STEP
 }
 
-// The compiler makes a constant array anew where it is read, as much of it as the index can reach. So sizes up to 256,
-// 2,048 and 8,192 bytes have a look of their own, at the front of the table alone.
-fn small_entry(step: usize) -> u8
-    ensures { result ≡ usual_class (8 * (step % 32 + 1)) }
+// The class of a step below a reach. The compiler makes a constant array anew where it is read, as much of it as the
+// index can reach. So sizes up to 256, 2,048 and 8,192 bytes have a look of their own, at the front of the table alone.
+#[tactic(auto, using(crate::proofs::Steps::entry_at))]
+fn entry_below<const REACH: usize>(step: usize) -> u8
+    requires { (0 < REACH) × (REACH ≤ 2048) }
+    ensures { result ≡ usual_class (8 * (step % REACH + 1)) }
 {
     let table = entries();
-    table[step % SMALL]
-}
-
-fn medium_entry(step: usize) -> u8
-    ensures { result ≡ usual_class (8 * (step % 256 + 1)) }
-{
-    let table = entries();
-    table[step % MEDIUM]
-}
-
-fn large_entry(step: usize) -> u8
-    ensures { result ≡ usual_class (8 * (step % 1024 + 1)) }
-{
-    let table = entries();
-    table[step % LARGE]
+    table[step % REACH]
 }
 
 // The class of step + 1 steps of eight bytes.
@@ -62,28 +49,27 @@ fn entry(step: usize) -> u8
     ensures { result ≡ usual_class (8 * (step + 1)) }
 {
     if step < SMALL {
-        return small_entry(step);
+        return entry_below::<SMALL>(step);
     }
     if step < MEDIUM {
-        return medium_entry(step);
+        return entry_below::<MEDIUM>(step);
     }
     if step < LARGE {
-        return large_entry(step);
+        return entry_below::<LARGE>(step);
     }
-    let table = entries();
-    table[step]
+    entry_below::<STEPS>(step)
 }
 
-// The class of a size; CLASSES where no slot is large enough. Slots are whole steps of eight bytes, so a size is
-// rounded up to them. Nothing has no step of its own.
-#[tactic(auto, using(crate::proofs::Sizes::usual_class_none))]
+// The class of a size; CLASSES where no slot is large enough, as the definition `usual_class` has it, and so no Option.
+// Slots are whole steps of eight bytes, so a size is rounded up to them. Nothing has no step of its own.
+#[tactic(auto, using(crate::proofs::Sizes::usual_class_none, crate::proofs::Steps::class_nothing))]
 pub fn usual_class(size: u32) -> usize
     ensures { result ≡ usual_class size }
 {
     if size == 0 {
         return 0;
     }
-    let step = wide(size - 1) / 8;
+    let step = (size - 1) as usize / 8;
     if step < STEPS {
         entry(step) as usize
     } else {

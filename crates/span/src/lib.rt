@@ -15,54 +15,52 @@ const MIDDLE: usize = 32;
 
 const SHORT: usize = 8;
 
-// Whether a byte of a block is one sought: equal to that of the pattern, or not. The loop has no early exit, so that it
-// vectorises.
-fn has_sought(
-    bytes: &[u8],
-    at: usize,
-    pattern: &[u8],
-    place: usize,
-    equal: bool,
-    block: usize,
-) -> bool
-    requires { (at + block ≤ length bytes.now) × (place + block ≤ length pattern.now) }
-    ensures { let test = is_sought equal pattern.now place bytes.now at in
-        result ≡ ltb (first test 0 block) block }
-{
-    let mut found = false;
-    let mut i: usize = 0;
-    while i < block {
-        found = found | (equal == (bytes[at + i] == pattern[place + i]));
-        i += 1;
-    }
-    found
-}
-
-// Passes over whole blocks without one, from a place that none comes before. The pattern begins anew after `period`
-// bytes. How many bytes are left is counted apart: the compiler makes a shorter loop of it.
-fn skip(
-    bytes: &[u8],
-    pattern: &[u8],
+// What is sought: bytes that are equal to those of a pattern, or bytes that are not. The pattern begins anew after
+// `period` bytes.
+#[derive(Drop)]
+struct Sought<'a> {
+    pattern: &'a [u8],
     period: usize,
     equal: bool,
-    from: usize,
-    block: usize,
-) -> usize
-    requires { (from ≤ first_sought equal period pattern.now bytes.now) × (from % block ≡ 0)
-        × Laid pattern.now period block }
-    ensures { let end = first_sought equal period pattern.now bytes.now in
-        result ≡ end - end % block }
-{
-    let mut at = from;
-    let mut left = bytes.len() - from;
-    while block <= left {
-        if has_sought(bytes, at, pattern, at % period, equal, block) {
-            return at;
+}
+
+impl Sought<'_> {
+    // Whether a byte of a block is one sought, where the pattern is at a place. The loop has no early exit, so that it
+    // vectorises.
+    fn is_in(&self, bytes: &[u8], at: usize, place: usize, block: usize) -> bool
+        requires { (at + block ≤ length bytes.now) × (place + block ≤ length self.now.pattern.now) }
+        ensures { let s = self.now in
+            let test = is_sought s.equal s.pattern.now place bytes.now at in
+            result ≡ ltb (first test 0 block) block }
+    {
+        let mut found = false;
+        for i in 0..block {
+            found |= self.equal == (bytes[at + i] == self.pattern[place + i]);
         }
-        at += block;
-        left -= block;
+        found
     }
-    at
+
+    // Passes over whole blocks without one, from a place that none comes before. How many bytes are left is counted
+    // apart: the compiler makes a shorter loop of it. A range would count blocks, and not the places asked for.
+    fn skip(&self, bytes: &[u8], from: usize, block: usize) -> usize
+        requires { let s = self.now in
+            (from ≤ first_sought s.equal s.period s.pattern.now bytes.now) × (from % block ≡ 0)
+            × Laid s.pattern.now s.period block }
+        ensures { let s = self.now in
+            let end = first_sought s.equal s.period s.pattern.now bytes.now in
+            result ≡ end - end % block }
+    {
+        let mut at = from;
+        let mut left = bytes.len() - from;
+        while block <= left {
+            if self.is_in(bytes, at, at % self.period, block) {
+                return at;
+            }
+            at += block;
+            left -= block;
+        }
+        at
+    }
 }
 
 // How many bytes from the first on are the pattern's, over and over.
@@ -70,9 +68,14 @@ pub fn same(bytes: &[u8], pattern: &[u8; PATTERN]) -> usize
     ensures { let b = bytes.now in
         result ≡ first (is_other pattern.now b) 0 (length b) }
 {
-    let far = skip(bytes, pattern, PATTERN, false, 0, PATTERN);
-    let near = skip(bytes, pattern, PATTERN, false, far, SHORT);
-    skip(bytes, pattern, PATTERN, false, near, 1)
+    let others = Sought {
+        pattern,
+        period: PATTERN,
+        equal: false,
+    };
+    let far = others.skip(bytes, 0, PATTERN);
+    let near = others.skip(bytes, far, SHORT);
+    others.skip(bytes, near, 1)
 }
 
 // How many bytes from the first on are other than this one.
@@ -81,9 +84,13 @@ pub fn other(bytes: &[u8], byte: u8) -> usize
         result ≡ first (is_byte byte b) 0 (length b) }
 {
     let laid = [byte; LONG];
-    let pattern: &[u8] = &laid;
-    let far = skip(bytes, pattern, 1, true, 0, LONG);
-    let middle = skip(bytes, pattern, 1, true, far, MIDDLE);
-    let near = skip(bytes, pattern, 1, true, middle, SHORT);
-    skip(bytes, pattern, 1, true, near, 1)
+    let one = Sought {
+        pattern: &laid,
+        period: 1,
+        equal: true,
+    };
+    let far = one.skip(bytes, 0, LONG);
+    let middle = one.skip(bytes, far, MIDDLE);
+    let near = one.skip(bytes, middle, SHORT);
+    one.skip(bytes, near, 1)
 }

@@ -7,52 +7,43 @@ ghost use Rattle.view.specs.View.{view_bytes, address_of, place_within, within};
 ghost use Rattle.view.specs.Looked.{answer_of, view_shown};
 
 use answer::{Answer, Refusal};
-use numbers::{least, wide};
 use slices::between;
 
 // Where bytes are shown from: an offset of the heap, or the front of the fallback page, which is lent beside it.
-#[derive(Clone, Copy)]
+#[derive(Clone, Copy, Debug, PartialEq, Eq)]
 pub enum Place {
     Heap(u32),
     Page,
 }
 
 // Bytes that are shown to the caller where they lie.
-#[derive(Clone, Copy)]
+#[derive(Clone, Copy, Debug, PartialEq, Eq)]
 pub struct View {
     pub place: Place,
     pub len: u32,
 }
 
-// What a read comes to: bytes that are shown where they lie.
-#[derive(Clone, Copy)]
-pub enum Looked {
-    Shown(View),
-    Refused(Refusal),
+// The empty part of the page.
+const NOTHING: View = View {
+    place: Place::Page,
+    len: 0,
+};
+
+// What a read comes to: bytes that are shown where they lie, or a refusal.
+pub type Looked = Result<View, Refusal>;
+
+// What a read answers: how many bytes it shows.
+pub fn answer(looked: Looked) -> Answer
+    ensures { reply_of result ≡ answer_of looked }
+{
+    looked.map(|view| view.len)
 }
 
-impl Looked {
-    pub fn answer(self) -> Answer
-        ensures { reply_of result ≡ answer_of self }
-    {
-        match self {
-            Looked::Shown(view) => Answer::Served(view.len),
-            Looked::Refused(refusal) => Answer::Refused(refusal),
-        }
-    }
-
-    // The empty part of the page where it is refused.
-    pub fn view(self) -> View
-        ensures { result ≡ view_shown self }
-    {
-        match self {
-            Looked::Shown(view) => view,
-            Looked::Refused(_) => View {
-                place: Place::Page,
-                len: 0,
-            },
-        }
-    }
+// The empty part of the page where it is refused.
+pub fn shown(looked: Looked) -> View
+    ensures { result ≡ view_shown looked }
+{
+    looked.unwrap_or(NOTHING)
 }
 
 // At an offset with so much room to the end of its live object, and with a page of this length.
@@ -60,14 +51,15 @@ pub fn within(offset: u32, room: usize, count: u32, page_len: usize) -> View
     ensures { result ≡ within offset room count page_len }
 {
     if room == 0 {
-        return View {
+        View {
             place: Place::Page,
-            len: least(wide(count), page_len) as u32,
-        };
-    }
-    View {
-        place: Place::Heap(offset),
-        len: least(wide(count), room) as u32,
+            len: page_len.min(count as usize) as u32,
+        }
+    } else {
+        View {
+            place: Place::Heap(offset),
+            len: room.min(count as usize) as u32,
+        }
     }
 }
 
@@ -77,15 +69,12 @@ pub fn bytes<'a>(view: View, heap: &'a [u8], page: &'a [u8]) -> &'a [u8]
         (result.ref_ptr ≡ address_of place heap.entry.ref_ptr page.entry.ref_ptr)
         × (result.now ≡ view_bytes view heap.now page.now) }
 {
-    let place = view.place;
-    let len = wide(view.len);
-    match place {
+    let len = view.len as usize;
+    match view.place {
         Place::Heap(offset) => {
-            let start = wide(offset);
-            return between(heap, start, start + len);
+            let start = offset as usize;
+            between(heap, start, start + len)
         }
-        Place::Page => {
-            return between(page, 0, len);
-        }
+        Place::Page => between(page, 0, len),
     }
 }

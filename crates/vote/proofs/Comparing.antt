@@ -1,5 +1,5 @@
 -- Who votes, and that two who vote agree where their groups are one.
-use Prim.Native.Nat.{ℕ, ◌-◌, ◌*◌, ◌%◌, ◌^◌, ◌≤◌, ◌<◌, min}
+use Prim.Native.Nat.{ℕ, ◌+◌, ◌-◌, ◌*◌, ◌/◌, ◌%◌, ◌^◌, ◌≤◌, ◌<◌, min}
 use native.Mathlib.Nat.{zero-add}
 use native.Mathlib.Decide.{dec_lt}
 use native.Mathlib.Omega.{arith}
@@ -7,7 +7,7 @@ use mathlib.Core.Path.{◌≡◌, refl, sym, ap, ap₂, ◌∙◌}
 use mathlib.Core.Bool.{Bool, true, false, ◌&&◌, and-true, and-false, and_self, and_comm, and-eq-true_iff}
 use mathlib.Core.List.{List, [], ◌∷◌}
 use mathlib.Core.Logic.{◌↔◌}
-use lib.ListN.{get_or, replicate}
+use lib.ListN.{get_or, set, replicate}
 use lib.Dec.{eqb, ltb}
 use borrow.Author.Tests.{eqb-true, eq-eqb, ltb-true, lt-ltb}
 use Rattle.search.specs.First.{first}
@@ -16,11 +16,12 @@ use Rattle.search.proofs.First.{first_range, first_passes, first_le, first_ge, f
 use Rattle.search.proofs.Tabulate.{tabulate_at, tabulate_length, tabulate_same}
 use Rattle.alike.specs.Alike.{alike}
 use Rattle.alike.proofs.Equal.{alike_self, alike_equal, same_truth}
-use Rattle.vote.specs.Decide.{first_of, agree, row}
-use Rattle.elect.specs.Leader.{digits, votes, mask_of, row_of}
+use Rattle.vote.specs.Decide.{first_of, block_in, agree, row, agreements}
+use Rattle.elect.specs.Leader.{digits, votes, mask_of, row_of, instead}
 use Rattle.elect.proofs.Rows.{row_mask}
-use Rattle.vote.specs.Groups.{group_of, groups_of, together}
-use Rattle.elect.proofs.Tables.{Filled}
+use Rattle.vote.specs.declared.Places.{Places}
+use Rattle.vote.specs.Groups.{Placed, group_of, groups_of, together}
+use Rattle.elect.proofs.Tables.{Filled, filled_none, filled_more, filled_all, replaced_set}
 
 -- two comparisons that come to the same
 pub same_ltb : (a b x y : ℕ) → (a < b → x < y) → (x < y → a < b) → ltb a b ≡ ltb x y
@@ -53,6 +54,20 @@ first_votes k l =
 -- and as a row again
 pub first_row : (k : ℕ) → row_of (mask_of (first_of k)) ≡ first_of k
 first_row k = row_mask (first_of k) (tabulate_length (λ r. ltb r k) 0 16)
+
+-- a bit of the mask is an entry of the row
+pub row_bit : (voting r : ℕ) → r < 16 → eqb (voting / 2 ^ r % 2) 1 ≡ get_or (row_of voting) r false
+row_bit voting r l = sym (tabulate_at (λ r. eqb (voting / 2 ^ r % 2) 1) false 16 r l)
+
+-- all entries are passed
+pub row_done : (voting : List Bool) (groups : List ℕ) (i : ℕ) {n : ℕ} {out : List Bool}
+    → Filled (together voting groups i) (λ _. false) out n → 16 ≤ n → out ≡ tabulate (together voting groups i) 0 16
+row_done voting groups i filled l = filled_all filled false (λ j a b. absurd (omega arith))
+
+-- the replica does not vote
+pub row_out : (voting : List Bool) (groups : List ℕ) (i : ℕ) → get_or voting i false ≡ false
+    → replicate 16 false ≡ tabulate (together voting groups i) 0 16
+row_out voting groups i e = filled_all filled_none false (λ j a b. rw e)
 
 module _ (voting : List Bool) (block : ℕ → List ℕ) where
   -- ---- to agree
@@ -161,3 +176,37 @@ module _ (voting : List Bool) (block : ℕ → List ℕ) where
     ],
     λ e. filled.rest 0 j (omega arith) m ∙ e,
   )
+
+-- ---- loops over them
+
+module _ {voting : List Bool} {outputs : List ℕ} {p : Places} (placed : Placed voting outputs p) where
+  abbrev block : ℕ → List ℕ
+  block = block_in outputs p
+
+  -- one more is put into its group
+  pub groups_more : {out next : List ℕ} {i v : ℕ} → Filled (group_of voting block) (λ j. j) out i → i < p.replicas
+      → v ≡ group_of voting block i → next ≡ tabulate (λ j. instead i v (get_or out j 0)) 0 16
+      → Filled (group_of voting block) (λ j. j) next (i + 1)
+  groups_more {out} {next} {i} {v} filled l e q =
+      let few : i < 16 = omega (arith, placed.few) in
+      rw (q ∙ replaced_set out i v filled.size few (groups_own voting block filled)) (filled_more filled few e)
+
+  -- who is past them is its own
+  pub groups_all : {out : List ℕ} {n : ℕ} → Filled (group_of voting block) (λ j. j) out n → p.replicas ≤ n
+      → out ≡ groups_of voting block
+  groups_all filled l =
+      filled_all filled 0 (λ j a b. group_out voting block j (placed.none_past j (omega arith)))
+
+  -- one more row is that of the table
+  pub rows_more : {groups : List ℕ} {out : List (List Bool)} {next : List Bool} {i : ℕ}
+      → Filled (row voting block) (λ _. replicate 16 false) out i → i < p.replicas → groups ≡ groups_of voting block
+      → next ≡ tabulate (together voting groups i) 0 16
+      → Filled (row voting block) (λ _. replicate 16 false) (set out i next) (i + 1)
+  rows_more {i = i} filled l e q =
+      let few : i < 16 = omega (arith, placed.few) in
+      filled_more filled few (agree_row voting block few e q)
+
+  -- who is past them agrees with none
+  pub rows_all : {out : List (List Bool)} {n : ℕ} → Filled (row voting block) (λ _. replicate 16 false) out n
+      → p.replicas ≤ n → out ≡ agreements voting block
+  rows_all filled l = filled_all filled [] (λ j a b. alone voting block j (placed.none_past j (omega arith)))

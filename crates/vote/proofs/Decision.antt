@@ -21,9 +21,10 @@ use Rattle.elect.specs.declared.Elected.{Elected}
 use Rattle.elect.specs.Leader.{most, votes, mask_of, row_of, lowest_of, leader, elected_of}
 use Rattle.elect.proofs.Rows.{digits_none, digits_front}
 use Rattle.elect.proofs.Leading.{leader_le, leader_front, leader_lowest}
-use Rattle.vote.specs.Groups.{Placed, Countable, winner_of, tallied}
+use Rattle.vote.specs.Groups.{Placed, Countable, winner_of}
 use Rattle.vote.specs.Decide.{first_of, block_in, agree, row, agreements}
-use Rattle.vote.specs.Decide.{invalid, won, lost, count, side_by_side, misplaced, step, tally}
+use Rattle.vote.specs.Decide.{invalid, won, lost, count, side_by_side, misplaced, step, tally, tally_of}
+use Rattle.std.specs.Prelude.{Ok}
 use Rattle.vote.proofs.Comparing.{out_agrees, agrees_out, agree_self, agree_same}
 
 -- ---- the table
@@ -74,7 +75,7 @@ module _ (voting : List Bool) (block : ℕ → List ℕ) where
       leader_lowest (agreements voting block) (row_own best few h) (row_same best few)
 
 -- past the replicas nobody votes
-pub counted : {voting : List Bool} {outputs : List ℕ} {p : Places} → Placed voting outputs p
+counted : {voting : List Bool} {outputs : List ℕ} {p : Places} → Placed voting outputs p
     → Countable (agreements voting (block_in outputs p)) p.replicas
 counted {voting} {outputs} {p} a =
     record {
@@ -85,7 +86,7 @@ counted {voting} {outputs} {p} a =
     }
 
 -- so who leads the replicas leads all, and all who agree with it are among them
-pub elected_wins : {table : List (List Bool)} {k : ℕ} → Countable table k → {w : Elected} → w ≡ elected_of table (min k most)
+elected_wins : {table : List (List Bool)} {k : ℕ} → Countable table k → {w : Elected} → w ≡ elected_of table (min k most)
     → (w ≡ winner_of table) × (w.replica < k)
 elected_wins {table} {k} c e =
     let all : min k most ≡ k = omega (arith, c.few) in
@@ -96,6 +97,12 @@ elected_wins {table} {k} c e =
     digits_front 2 _ k (λ j. c.columns _ j (omega (arith, c.few))) in
     let found = rw all at e in
     (found ∙ rw (leads, mask), rw found low)
+
+pub elected_by : {voting : List Bool} {outputs : List ℕ} {p : Places} → Placed voting outputs p
+    → {table : List (List Bool)} → table ≡ agreements voting (block_in outputs p)
+    → {w : Elected} → w ≡ elected_of table (min p.replicas most)
+    → (w ≡ winner_of (agreements voting (block_in outputs p))) × (w.replica < p.replicas)
+elected_by a e f = elected_wins (counted a) (rw e at f)
 
 -- ---- the winner
 
@@ -119,14 +126,10 @@ module _ (voting : List Bool) (block : ℕ → List ℕ) {w : Elected} (e : w �
   low = rw e (row_lowest voting block)
 
   -- the answer is that of the count
-  pub count_tally : tallied w ≡ tally (count voting block)
-  count_tally = go (ltb w.count 2) refl
-    where
-      go : (t : Bool) → ltb w.count 2 ≡ t → tallied w ≡ tally (count voting block)
-      go true q = rw (q, count_lost (ltb-true _ _ q))
-      go false q =
-          let has : (w.count ≡ votes winners) × (w.mask ≡ mask_of winners) = rw e (refl, refl) in
-          rw (q, count_won (ltb-false _ _ q), has.0, has.1, low (omega (arith, ltb-false)))
+  pub tally_won : 2 ≤ w.count → tally_of (Ok w) ≡ tally (count voting block)
+  tally_won h =
+      let has : (w.count ≡ votes winners) × (w.mask ≡ mask_of winners) = rw e (refl, refl) in
+      rw (count_won h, has.0, has.1, low (omega arith))
 
 -- its block is put to the front of an output
 pub count_put : (outputs output : List ℕ) (p : Places) (r : ℕ) → p.len ≤ length output
@@ -186,9 +189,10 @@ pub first_only : (k r : ℕ) → k ≤ r → get_or (first_of k) r false ≡ fal
 first_only k r h = says_no (λ r. ltb r k) r (le-ltb r k h)
 
 -- its blocks lie side by side
-pub placed : {blocks : List ℕ} {limit k size room : ℕ} → Allowed limit (length blocks) k size room
+pub placed : (limit room : ℕ) {blocks : List ℕ} {k size : ℕ} → invalid limit (length blocks) k size room ≡ false
     → Placed (first_of k) blocks (side_by_side k size)
-placed {k = k} {size = size} a =
+placed limit room {blocks} {k} {size} e =
+    let a : Allowed limit (length blocks) k size room = allowed e in
     record {
       some = omega (arith, a.several);
       few = a.few;
@@ -244,9 +248,10 @@ voters_only {still} {k} few r h =
     says_no (λ r. eqb (still / 2 ^ r % 2) 1) r (rw none)
 
 -- and its bytes are there
-pub placed_step : {outputs : List ℕ} {still : ℕ} {p : Places} {room : ℕ} → Fitting (length outputs) still p room
+pub placed_step : (still room : ℕ) {outputs : List ℕ} {p : Places} → misplaced (length outputs) still p room ≡ false
     → Placed (row_of still) outputs p
-placed_step {still = still} {p = p} f =
+placed_step still room {outputs} {p} e =
+    let f : Fitting (length outputs) still p room = fitting e in
     record {
       some = f.some;
       few = f.few;

@@ -1,5 +1,5 @@
 -- The vote of replicas on a block of output.
-use Rattle.std.specs.Prelude.{ℕ, ◌+◌, ◌*◌, ◌^◌, Bool, true, false, not, ◌&&◌, ◌||◌, List, [], ◌++◌, length, get_or, take, drop, ltb, eqb}
+use Rattle.std.specs.Prelude.{ℕ, ◌+◌, ◌*◌, ◌^◌, Bool, true, false, not, ◌&&◌, ◌||◌, List, [], ◌++◌, length, get_or, take, drop, ltb, eqb, Result, Ok, Err}
 use Rattle.alike.specs.Alike.{alike}
 use Rattle.elect.specs.Leader.{most, votes, mask_of, row_of, lowest_of, leader}
 use Rattle.search.specs.Tabulate.{tabulate}
@@ -7,8 +7,7 @@ use Rattle.answer.specs.declared.Refusal.{Refusal}
 use Rattle.answer.specs.declared.Refusal.TheVariants.{InvalidVote, NoAgreement}
 use Rattle.answer.specs.Reply.{number_of}
 use Rattle.vote.specs.declared.Places.{Places}
-use Rattle.vote.specs.declared.Verdict.{Verdict}
-use Rattle.vote.specs.declared.Verdict.TheVariants.{Agreed, Refused}
+use Rattle.elect.specs.declared.Elected.{Elected}
 
 -- ---- limits
 
@@ -134,6 +133,6 @@ output_after (won row block) output = block ++ drop (length block) output
 output_after (lost r) output = output
 
 -- the numbers of an answer
-abbrev pub tally_of : Verdict → Tally
-tally_of (Agreed mask count replica) = record { number = 0; mask = mask; value = count; replica = replica }
-tally_of (Refused r) = refused_with r 0
+abbrev pub tally_of : Result Elected Refusal → Tally
+tally_of (Ok e) = record { number = 0; mask = e.mask; value = e.count; replica = e.replica }
+tally_of (Err r) = refused_with r 0

@@ -1,12 +1,11 @@
 -- How comparing and counting go about their work. What the vote promises rests on `Decide` alone.
-use Rattle.std.specs.Prelude.{ℕ, ◌+◌, ◌*◌, ◌≤◌, ◌<◌, ◌≡◌, Bool, false, cond, ◌&&◌, List, [], length, get_or, ltb, eqb}
+use Rattle.std.specs.Prelude.{ℕ, ◌+◌, ◌*◌, ◌≤◌, ◌<◌, ◌≡◌, Bool, false, ◌&&◌, List, [], length, get_or, eqb}
 use Rattle.search.specs.First.{first}
 use Rattle.search.specs.Tabulate.{tabulate}
-use Rattle.answer.specs.declared.Refusal.TheVariants.{NoAgreement}
 use Rattle.vote.specs.declared.Places.{Places}
 use Rattle.elect.specs.declared.Elected.{Elected}
 use Rattle.elect.specs.Leader.{most, votes, mask_of, leader}
-use Rattle.vote.specs.Decide.{agree, Tally, refused_with}
+use Rattle.vote.specs.Decide.{agree}
 
 -- what comparing relies on: no more replicas than sixteen, and at least one; none votes past them; all bytes are there
 pub record Placed (voting : List Bool) (outputs : List ℕ) (p : Places) : Type 0 where
@@ -39,10 +38,3 @@ winner_of table =
     let best : ℕ = leader table most in
     let row : List Bool = get_or table best [] in
     record { replica = best; count = votes row; mask = mask_of row }
-
--- the answer that names the leader, where two or more agree
-abbrev pub tallied : Elected → Tally
-tallied w =
-    cond (ltb w.count 2)
-    (refused_with NoAgreement 0)
-    (record { number = 0; mask = w.mask; value = w.count; replica = w.replica })

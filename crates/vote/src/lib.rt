@@ -5,13 +5,15 @@ mod compare;
 
 ghost use Rattle.std.specs.Prelude.{◌≡◌, ◌≤◌, length};
 ghost use Rattle.elect.specs.Leader.{mask_of, row_of};
-ghost use Rattle.vote.specs.Decide.{first_of, block_in, agreements, invalid, count, side_by_side, decide};
+ghost use Rattle.vote.specs.Decide.{first_of, block_in, invalid, count, side_by_side, decide};
 ghost use Rattle.vote.specs.Decide.{misplaced, step, tally, tally_of, output_after};
-ghost use Rattle.vote.specs.Groups.{Placed, winner_of, tallied};
 
 use answer::Refusal;
-use elect::{Elected, MOST};
-use numbers::{least, wide};
+use compare::Voters;
+use elect::MOST;
+
+// Who wins, how many they are and their mask (bit r for replica r).
+pub use elect::Elected;
 
 const FEWEST_REPLICAS: usize = 3;
 
@@ -27,29 +29,25 @@ pub struct Places {
     pub len: usize,
 }
 
-#[derive(Clone, Copy)]
-pub enum Verdict {
-    // The winning replicas as a mask (bit r for replica r), how many they are, and the lowest-numbered of them.
-    Agreed { mask: u32, count: u32, replica: u32 },
-    Refused(Refusal),
-}
-
 // Whether the numbers of a vote on outputs of up to `longest` bytes are not allowed. The factors are judged before they
 // are multiplied.
 pub fn is_invalid(longest: u32, lent: usize, replicas: usize, len: usize, room: usize) -> bool
     ensures { result ≡ invalid longest lent replicas len room }
 {
-    if (replicas < FEWEST_REPLICAS) | (MOST < replicas) | (len < 1) | (wide(longest) < len) {
-        return true;
-    }
-    (lent != replicas * len) | (room < len)
+    replicas < FEWEST_REPLICAS
+        || MOST < replicas
+        || len < 1
+        || (longest as usize) < len
+        || lent != replicas * len
+        || room < len
 }
 
 // The first replicas, a bit each.
+#[tactic(auto, using(crate::proofs::Comparing::first_mask))]
 pub fn first(replicas: usize) -> u32
     ensures { result ≡ mask_of (first_of replicas) }
 {
-    (1 << least(replicas, MOST) as u32) - 1
+    (1 << replicas.min(MOST) as u32) - 1
 }
 
 // Blocks of one length, one after another.
@@ -64,37 +62,30 @@ fn side_by_side(replicas: usize, block_len: usize) -> Places
     }
 }
 
-// The winner among those who vote, a bit each. If two or more share its block, this goes to the front of `output`.
-fn elected(outputs: &[u8], voting: u32, p: Places, output: &mut [u8]) -> Elected
-    requires { Placed (row_of voting) outputs.now p × (p.len ≤ length output.old) }
-    ensures { let block = block_in outputs.now p in
-        (result ≡ winner_of (agreements (row_of voting) block))
-        × (output.new ≡ output_after (count (row_of voting) block) output.old) }
+// Voters elect: if two or more share the winner's block, this goes to the front of `output`.
+fn elected(voters: Voters, output: &mut [u8]) -> Result<Elected, Refusal>
+    requires { voters.places.len ≤ length output.old }
+    ensures { let v = voters.entry in
+        let d = count (row_of v.voting) (block_in v.outputs.now v.places) in
+        (tally_of result ≡ tally d) × (output.new ≡ output_after d output.old) }
 {
-    let winner = elect::winner(compare::agreements(outputs, voting, p), p.replicas);
+    let winner = elect::winner(voters.agreements(), voters.places.replicas);
     let alone = winner.count < 2;
     if alone {
-        return winner;
+        return Err(Refusal::NoAgreement);
     }
-    writing::write(output, compare::block(outputs, p, winner.replica as usize));
-    winner
-}
-
-fn answer(elected: Elected) -> Verdict
-    ensures { tally_of result ≡ tallied elected }
-{
-    if elected.count < 2 {
-        return Verdict::Refused(Refusal::NoAgreement);
-    }
-    Verdict::Agreed {
-        mask: elected.mask,
-        count: elected.count,
-        replica: elected.replica,
-    }
+    writing::write(output, voters.block(winner.replica as usize));
+    Ok(winner)
 }
 
 // Replicas lie one after another in `blocks`, a block each. The winning block goes to the front of `output`.
-pub fn vote(blocks: &[u8], replicas: usize, block_len: usize, output: &mut [u8]) -> Verdict
+#[tactic(auto, unfolding(crate::specs::Decide::decide), using(crate::proofs::Comparing::first_row, crate::proofs::Decision::placed))]
+pub fn vote(
+    blocks: &[u8],
+    replicas: usize,
+    block_len: usize,
+    output: &mut [u8],
+) -> Result<Elected, Refusal>
     ensures { let d = decide blocks.now replicas block_len (length output.old) in
         (tally_of result ≡ tally d) × (output.new ≡ output_after d output.old) }
 {
@@ -105,37 +96,43 @@ pub fn vote(blocks: &[u8], replicas: usize, block_len: usize, output: &mut [u8])
         block_len,
         output.len(),
     ) {
-        return Verdict::Refused(Refusal::InvalidVote);
+        return Err(Refusal::InvalidVote);
     }
-    answer(elected(
-        blocks,
-        first(replicas),
-        side_by_side(replicas, block_len),
-        output,
-    ))
+    let voters = Voters {
+        outputs: blocks,
+        voting: first(replicas),
+        places: side_by_side(replicas, block_len),
+    };
+    elected(voters, output)
 }
 
 // Whether replicas, voters, bytes or room are not there for a step.
 fn is_misplaced(lent: usize, still: u32, p: Places, room: usize) -> bool
     ensures { result ≡ misplaced lent still p room }
 {
-    if (p.replicas < 1) | (MOST < p.replicas) {
-        return true;
-    }
-    if (still >> p.replicas as u32 != 0) | (p.apart < p.at) {
-        return true;
-    }
-    (p.apart - p.at < p.len) | (lent / p.replicas < p.apart) | (room < p.len)
+    p.replicas < 1
+        || MOST < p.replicas
+        || still >> p.replicas as u32 != 0
+        || p.apart < p.at
+        || p.apart - p.at < p.len
+        || lent / p.replicas < p.apart
+        || room < p.len
 }
 
 // A step of a longer vote: those who are still in, a bit each, vote on a part of their outputs. What wins goes to the
 // front of `output`.
-pub fn step(outputs: &[u8], still: u32, p: Places, output: &mut [u8]) -> Verdict
+#[tactic(auto, unfolding(crate::specs::Decide::step), using(crate::proofs::Decision::placed_step))]
+pub fn step(outputs: &[u8], still: u32, p: Places, output: &mut [u8]) -> Result<Elected, Refusal>
     ensures { let d = step outputs.now still p (length output.old) in
         (tally_of result ≡ tally d) × (output.new ≡ output_after d output.old) }
 {
     if is_misplaced(outputs.len(), still, p, output.len()) {
-        return Verdict::Refused(Refusal::InvalidVote);
+        return Err(Refusal::InvalidVote);
     }
-    answer(elected(outputs, still, p, output))
+    let voters = Voters {
+        outputs,
+        voting: still,
+        places: p,
+    };
+    elected(voters, output)
 }

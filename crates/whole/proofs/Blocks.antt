@@ -17,8 +17,8 @@ use Rattle.answer.proofs.Numbers.{refusal_number}
 use Rattle.elect.specs.Leader.{most, mask_of, row_of}
 use Rattle.elect.proofs.Rows.{row_mask, mask_lt}
 use Rattle.vote.specs.declared.Places.{Places}
-use Rattle.vote.specs.declared.Verdict.{Verdict}
-use Rattle.vote.specs.declared.Verdict.TheVariants.{Agreed, Refused}
+use Rattle.std.specs.Prelude.{Result, Ok, Err}
+use Rattle.elect.specs.declared.Elected.{Elected}
 use Rattle.vote.specs.Decide.{Decision, longest, first_of, block_in, count, won, lost, step, Tally, agreed_by, refused_with, tally, tally_of, output_after}
 use Rattle.vote.proofs.Comparing.{first_row}
 use Rattle.vote.proofs.Decision.{Allowed, Fitting, first_only, step_counts, voters_only}
@@ -131,12 +131,12 @@ module _ {outputs : List ℕ} {k len : ℕ} {start out : List ℕ} {still block 
       )
 
   -- a step's verdict, and what it lent back
-  abbrev pub Stepped : Verdict → List ℕ → Type 0
+  abbrev pub Stepped : Result Elected Refusal → List ℕ → Type 0
   Stepped v w = let d = step outputs still p (length part) in (tally_of v ≡ tally d) × (w ≡ output_after d part)
 
-  module _ {v : Verdict} {w : List ℕ} (s : Stepped v w) where
+  module _ {v : Result Elected Refusal} {w : List ℕ} (s : Stepped v w) where
     -- no two agree
-    pub reached_lost : {q : Refusal} → v ≡ Refused q
+    pub reached_lost : {q : Refusal} → v ≡ Err q
         → (refused_with NoAgreement block ≡ Rest.answer) × (put w ≡ Rest.output)
     reached_lost {q} e =
         count_cases (row_of still) (block_in outputs (block_at k len (longest * block)))
@@ -148,8 +148,8 @@ module _ {outputs : List ℕ} {k len : ℕ} {start out : List ℕ} {still block 
         let number : number_of q ≡ 0 = ap (λ (t : Tally). t.number) (rw (e, stepped, some) at s.0) in
         absurd (refusal_number q number))
 
-    passed : {m c i : ℕ} → v ≡ Agreed m c i → Passed (record { number = 0; mask = m; value = c; replica = i }) w
-    passed {m} {c} {i} e =
+    passed : {left : Elected} → v ≡ Ok left → Passed (tally_of (Ok left)) w
+    passed {left} e =
         count_cases (row_of still) (block_in outputs (block_at k len (longest * block)))
         (λ none.
         let number : ◌≡◌ {A = ℕ} 0 12 = ap (λ (t : Tally). t.number) (rw (e, stepped, none) at s.0) in
@@ -166,8 +166,8 @@ module _ {outputs : List ℕ} {k len : ℕ} {start out : List ℕ} {still block 
         })
 
     -- this was the last block
-    pub reached_all : {m c i n : ℕ} → v ≡ Agreed m c i → n ≡ min longest (len - at) → at + n ≡ len
-        → (◌≡◌ {A = Tally} (record { number = 0; mask = m; value = c; replica = i }) Rest.answer) × (put w ≡ Rest.output)
+    pub reached_all : {left : Elected} {n : ℕ} → v ≡ Ok left → n ≡ min longest (len - at) → at + n ≡ len
+        → (tally_of (Ok left) ≡ Rest.answer) × (put w ≡ Rest.output)
     unfolding through
     reached_all e size last =
         let n = passed e in
@@ -176,15 +176,15 @@ module _ {outputs : List ℕ} {k len : ℕ} {start out : List ℕ} {still block 
         rw end (n.tallied, refl)
 
     -- another follows
-    pub reached_more : {m c i n : ℕ} → v ≡ Agreed m c i → n ≡ min longest (len - at) → (at + n ≡ len → ⊥)
-        → Reached outputs k len start (put w) m (block + 1) (at + n)
-    reached_more {m} e size more =
+    pub reached_more : {left : Elected} {n : ℕ} → v ≡ Ok left → n ≡ min longest (len - at) → (at + n ≡ len → ⊥)
+        → Reached outputs k len start (put w) left.mask (block + 1) (at + n)
+    reached_more {left} e size more =
         let n = passed e in
         let voting = row_of still in
         let Block-of = block_in outputs (block_at k len (longest * block)) in
-        let mask : m ≡ mask_of n.winners = ap (λ (t : Tally). t.mask) n.tallied in
+        let mask : left.mask ≡ mask_of n.winners = ap (λ (t : Tally). t.mask) n.tallied in
         let all : length n.winners ≡ most = rw n.by.all (tabulate_length _ 0 most) in
-        let same : row_of m ≡ n.winners = ap row_of mask ∙ row_mask n.winners all in
+        let same : row_of left.mask ≡ n.winners = ap row_of mask ∙ row_mask n.winners all in
         record {
           allowed = r.allowed;
           place = omega (arith, r.place, r.left);

@@ -1,11 +1,12 @@
 -- The vote of replicas on whole outputs, block by block.
-use Rattle.std.specs.Prelude.{ℕ, zero, suc, ◌+◌, ◌-◌, ◌*◌, ◌/◌, min, Bool, true, false, List, length}
+use Rattle.std.specs.Prelude.{ℕ, zero, suc, ◌+◌, ◌-◌, ◌*◌, ◌/◌, min, Bool, true, false, List, length, Result, Ok, Err}
 use Rattle.writing.specs.Overwrite.{overwrite}
 use Rattle.answer.specs.declared.Refusal.TheVariants.{NoAgreement, InvalidOutputs}
 use Rattle.vote.specs.declared.Places.{Places}
 use Rattle.vote.specs.Decide.{longest, first_of, block_in, invalid, count, won, lost, Tally, agreed_by, refused_with}
-use Rattle.whole.specs.declared.Consensus.{Consensus}
-use Rattle.whole.specs.declared.Consensus.TheVariants.{Agreed, Split, Refused}
+use Rattle.elect.specs.declared.Elected.{Elected}
+use Rattle.whole.specs.declared.Failure.{Failure}
+use Rattle.whole.specs.declared.Failure.TheVariants.{Split, Refused}
 
 -- outputs of up to 1,048,576 bytes
 abbrev pub longest_output : ℕ
@@ -43,7 +44,7 @@ whole outputs k len out =
     ]
 
 -- the numbers of an answer
-abbrev pub answer_of : Consensus → Tally
-answer_of (Agreed mask count replica) = record { number = 0; mask = mask; value = count; replica = replica }
-answer_of (Split block) = refused_with NoAgreement block
-answer_of (Refused r) = refused_with r 0
+abbrev pub answer_of : Result Elected Failure → Tally
+answer_of (Ok e) = record { number = 0; mask = e.mask; value = e.count; replica = e.replica }
+answer_of (Err (Split block)) = refused_with NoAgreement block
+answer_of (Err (Refused r)) = refused_with r 0

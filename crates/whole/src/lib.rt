@@ -6,15 +6,12 @@ ghost use Rattle.vote.specs.Decide.{first_of, invalid};
 ghost use Rattle.whole.specs.Whole.{longest_output, blocks, block_at, through, whole, answer_of};
 
 use answer::Refusal;
-use numbers::least;
-use vote::{LONGEST_BLOCK, Places, Verdict};
+use vote::{Elected, LONGEST_BLOCK, Places};
 
 const LONGEST_OUTPUT: usize = 1048576;
 
 #[derive(Clone, Copy)]
-pub enum Consensus {
-    // Those who are left as a mask (bit r for replica r), how many they are, and the lowest-numbered of them.
-    Agreed { mask: u32, count: u32, replica: u32 },
+pub enum Failure {
     // No two of those who are still in agree in this block, counted from 0.
     Split { block: u32 },
     Refused(Refusal),
@@ -29,48 +26,49 @@ fn block_at(replicas: usize, len: usize, at: usize) -> Places
         replicas,
         apart: len,
         at,
-        len: least(LONGEST_BLOCK, len - at),
+        len: LONGEST_BLOCK.min(len - at),
     }
 }
 
 // Votes on block after block, as long as two of those who are still in agree.
-fn through(outputs: &[u8], replicas: usize, len: usize, output: &mut [u8]) -> Consensus
+fn through(
+    outputs: &[u8],
+    replicas: usize,
+    len: usize,
+    output: &mut [u8],
+) -> Result<Elected, Failure>
     requires { invalid longest_output (length outputs.now) replicas len (length output.old) ≡ false }
     ensures { let all = first_of replicas in
         let voted = through outputs.now replicas len (blocks len) 0 all output.old in
         (answer_of result ≡ voted.answer) × (output.new ≡ voted.output) }
 {
     let mut still = vote::first(replicas);
-    let mut block: u32 = 0;
-    let mut at: usize = 0;
+    let mut block = 0;
+    let mut at = 0;
+    // No `for`: the answer is what the last block's vote gives, and there is a block.
     loop {
         let p = block_at(replicas, len, at);
-        let step = vote::step(outputs, still, p, &mut output[at..]);
-        let Verdict::Agreed {
-            mask,
-            count,
-            replica,
-        } = step
-        else {
-            return Consensus::Split { block };
-        };
+        let left = vote::step(outputs, still, p, &mut output[at..]).map_err(|_| Failure::Split {
+            block,
+        })?;
         at += p.len;
         let ended = at == len;
         if ended {
-            return Consensus::Agreed {
-                mask,
-                count,
-                replica,
-            };
+            return Ok(left);
         }
-        still = mask;
+        still = left.mask;
         block += 1;
     }
 }
 
 // Outputs of one length lie one after another. What the replicas left at the end share goes to the front of `output`;
 // where no two agree in a block, the blocks before it do.
-pub fn vote(outputs: &[u8], replicas: usize, len: usize, output: &mut [u8]) -> Consensus
+pub fn vote(
+    outputs: &[u8],
+    replicas: usize,
+    len: usize,
+    output: &mut [u8],
+) -> Result<Elected, Failure>
     ensures { let voted = whole outputs.now replicas len output.old in
         (answer_of result ≡ voted.answer) × (output.new ≡ voted.output) }
 {
@@ -81,7 +79,7 @@ pub fn vote(outputs: &[u8], replicas: usize, len: usize, output: &mut [u8]) -> C
         len,
         output.len(),
     ) {
-        return Consensus::Refused(Refusal::InvalidOutputs);
+        return Err(Failure::Refused(Refusal::InvalidOutputs));
     }
     through(outputs, replicas, len, output)
 }

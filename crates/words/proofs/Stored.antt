@@ -1,14 +1,14 @@
 -- A number read at a place and stored there.
-use Prim.Native.Nat.{ℕ, suc, ◌+◌, ◌-◌, ◌/◌, ◌%◌, ◌^◌, ◌<◌, ◌≤◌}
+use Prim.Native.Nat.{ℕ, ◌+◌, ◌/◌, ◌%◌, ◌^◌, ◌<◌, ◌≤◌}
 use mathlib.Core.Path.{◌≡◌, refl, sym, ap, ◌∙◌}
 use mathlib.Core.Bool.{Bool, true, false, cond}
-use mathlib.Core.List.{List, ◌++◌, append_assoc}
-use native.Mathlib.Nat.{le_of_eq, add-sub_cancel_left, div-div-eq-div-mul, div-add-mod', mod-eq_of_lt}
+use mathlib.Core.List.{List, ◌++◌}
+use native.Mathlib.Nat.{div-div-eq-div-mul, div-add-mod', mod-eq_of_lt}
 use native.Mathlib.Omega.{arith}
-use borrow.Author.Tests.{leb-true, le-leb, lt-leb}
+use borrow.Author.Tests.{leb-true, le-leb}
 use lib.Dec.{leb}
-use lib.ListN.{length, take, drop, get_or, set, length-drop, drop_of_length-le}
-use lib.Seq.{sets-eq, take_all, drop-drop, length-take-le, get_or-take, get_or-drop}
+use lib.ListN.{length, take, drop, get_or}
+use lib.Seq.{length-take-le, get_or-take, get_or-drop}
 use Rattle.writing.specs.Overwrite.{overwrite}
 use Rattle.writing.proofs.Writing.{overwrite_length}
 use Rattle.writing.proofs.Parts.{part_here, part_before, part_after, front_written}
@@ -43,30 +43,7 @@ word_taken b n p h = rw (byte 0 (omega arith), byte 1 (omega arith), byte 2 (ome
     byte i l = get_or-drop p (take n b) i 0 ∙ get_or-take n b (p + i) 0 (omega arith) ∙ sym (get_or-drop p b i 0)
 
 module _ (b : List ℕ) (at : ℕ) where
-  -- past the end, four bytes from a place on, and all
-  pub none_there : length b ≤ at → 0 ≡ word_at b at
-  none_there h = rw (drop_of_length-le b {i = at} h)
-
-  pub four_there : {x : ℕ} → x ≡ word_of (take (at + 4 - at) (drop at b)) → x ≡ word_at b at
-  four_there e = e ∙ rw (add-sub_cancel_left at 4) (word_front (drop at b))
-
-  pub read_there : {x : ℕ} → x ≡ word_of (take (length b - at) (drop at b)) → x ≡ word_at b at
-  read_there e = e ∙ ap word_of (take_all (length b - at) (drop at b) (le_of_eq (length-drop at b)))
-
   module _ (n : ℕ) where
-    -- no room, and room
-    pub no_room : length b < at + 4 → b ≡ put_word b at n
-    no_room h = rw (lt-leb (at + 4) (length b) h)
-
-    pub stored : {i j k l : ℕ} → at + 4 ≤ length b → i ≡ n % 256 → j ≡ n / 256 % 256 → k ≡ n / 65536 % 256 → l ≡ n / 16777216 % 256
-        → set (set (set (set b at i) (at + 1) j) (at + 2) k) (at + 3) l ≡ put_word b at n
-    stored h p q r s =
-        let one : at + 1 ≡ suc at = omega arith in
-        let two : at + 2 ≡ suc (suc at) = omega arith in
-        let three : at + 3 ≡ suc (suc (suc at)) = omega arith in
-        rw (le-leb (at + 4) (length b) h, p, q, r, s, one, two, three)
-        (sets-eq (bytes_of n) b at h ∙ append_assoc (take at b) (bytes_of n) (drop (at + 4) b) ∙ rw (drop-drop 4 at b))
-
     -- either way the length stays, and so do the bytes of every other place
     put_keeps : (P : List ℕ → Type 0) → P b → (at + 4 ≤ length b → P (overwrite b at (bytes_of n))) → P (put_word b at n)
     put_keeps P none some = go (leb (at + 4) (length b)) refl

@@ -1,5 +1,4 @@
--- Laws of bytes written over others and moved.
+-- Laws of bytes written over others.
 pub mod Writing
 pub mod Fitting
 pub mod Parts
-pub mod Shifting

@@ -5,8 +5,8 @@ use mathlib.Core.List.{List, [], ◌∷◌, ◌++◌, append_assoc, append-nil}
 use native.Mathlib.Nat.{le_of_eq}
 use native.Mathlib.Numerals.{add-one}
 use native.Mathlib.Omega.{arith}
-use lib.ListN.{length, take, drop, set, length-append, length-take, length-drop, drop_of_length-le, take-append-drop}
-use lib.Seq.{take_at, drop_at, drop-drop, take_all, take-length, set_split}
+use lib.ListN.{length, take, drop, set, length-append, length-take, length-drop, drop_of_length-le}
+use lib.Seq.{take_at, drop_at, drop-drop, take_all, set_split}
 use Rattle.writing.specs.Overwrite.{overwrite}
 
 -- a list keeps its length where what is written lies within
@@ -47,11 +47,6 @@ wrote_then {xs} {ys = ys} {zs = zs} {a = a} {b = b} f g q = record {
 pub wrote_byte : (xs : List ℕ) (a v : ℕ) → a < length xs → Wrote xs (set xs a v) a (v ∷ [])
 wrote_byte xs a v h = record { bytes = set_split xs a v h ∙ rw (drop-drop 1 a xs, add-one); room = omega arith }
 
--- a text copied into a part of the output that is as long
-pub text_put : (out d dst : List ℕ) (at n : ℕ) {w src : List ℕ} → w ≡ take (length src) src ++ drop (length src) dst → src ≡ d
-    → length dst ≡ length d → n ≡ length d → take at out ++ (w ++ drop n (drop at out)) ≡ overwrite out at d
-text_put out d dst at n p e f g = rw (p, e, g, take-length d, drop_of_length-le dst (le_of_eq f), append-nil d)
-
 -- a text at the front of all that lies from a place on
 pub wrote_from : (out line : List ℕ) (a : ℕ) {w : List ℕ} → w ≡ overwrite (take (length out - a) (drop a out)) 0 line
     → a + length line ≤ length out
@@ -63,7 +58,3 @@ wrote_from out line a p h =
 -- a text written keeps the length
 pub wrote_length : {xs out ys : List ℕ} {a : ℕ} → Wrote xs out a ys → length out ≡ length xs
 wrote_length {xs} {ys = ys} {a = a} w = rw w.bytes (overwrite_length xs a ys w.room)
-
--- nothing written: the place stays, within any room
-pub nothing_written : (out : List ℕ) (at room : ℕ) → ((at ≡ at + 0) × (at ≤ at + room)) × (out ≡ overwrite out at [])
-nothing_written out at room = ((omega arith, omega arith), sym (take-append-drop at out))

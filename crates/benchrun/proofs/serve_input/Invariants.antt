@@ -5,4 +5,4 @@ use Rattle.benchrun.specs.Replay.{first_number, most_requests}
 use Rattle.benchrun.proofs.serve_input.Given as goal
 
 abbrev pub invariant-loop : goal.invariant-loop
-invariant-loop g l = (l.turn.kept < request_size) × (l.turn.next ≤ first_number + most_requests * l.counter)
+invariant-loop g l = (l.served.kept < request_size) × (l.served.next ≤ first_number + most_requests * l.counter)

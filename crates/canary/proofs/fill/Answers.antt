@@ -17,11 +17,11 @@ loop-at-init c =
 pub loop-at-preserved : goal.loop-at-preserved
 loop-at-preserved c =
     let loop = c.loop-at in
-    let part = c.least.ensures in
-    let len = c.least-len.ensures in
+    let part = c.min.ensures in
+    let len = c.min-len.ensures in
     let (ends, past, short) = copy_fits _ _ loop.at part len (omega arith) in
     let (whole, some) = loop.invariant.1 (omega arith) in
-    let more = repeat_more _ _ loop.at c.least-len.result whole past loop.invariant.3 c.repeat.ensures in (
+    let more = repeat_more _ _ loop.at c.min-len.result whole past loop.invariant.3 c.repeat.ensures in (
       omega (arith, ends),
       λ l. (copy_whole _ _ loop.at part len (omega arith) refl whole (omega arith), omega arith),
       front_length _ _ _ (omega (arith, ends)) more,

@@ -1,4 +1,5 @@
 -- `canary::fill_slots` meets its contract. The loop's invariant: the slots of the classes before this one are filled.
+use mathlib.Core.Path.{refl}
 use native.Mathlib.Omega.{arith}
 use Rattle.canary.proofs.Slots.{partly_none, partly_all, class_filled}
 use Rattle.canary.proofs.fill_slots.Goals as goal
@@ -9,8 +10,8 @@ loop-class-init c = partly_none _ _ _
 pub loop-class-preserved : goal.loop-class-preserved
 loop-class-preserved c =
     let a = c.args in
-    class_filled a.layout a.canary a.heap.now c.loop-class.class c.loop-class.invariant c.wide.ensures.0
-    c.slots.ensures.0 c.slot_size.ensures c.least-start.ensures c.least-end.ensures
+    class_filled a.layout a.canary a.heap.now c.loop-class.class c.loop-class.invariant refl
+    c.slots.ensures.0 c.slot_size.ensures c.min-start.ensures c.min-end.ensures
     c.fill.ensures
 
 pub returns : goal.returns

@@ -1,11 +1,6 @@
 -- `canary::fill_slots` meets its contract. The loop's invariant: the slots of the classes before this one are filled.
-use Prim.Native.Nat.{◌-◌}
-use Rattle.geometry.specs.Layout.{classes}
 use Rattle.canary.proofs.Slots.{Partly}
 use Rattle.canary.proofs.fill_slots.Given as goal
 
 abbrev pub invariant-loop-class : goal.invariant-loop-class
 invariant-loop-class l = Partly l.layout l.canary l.initial.heap l.class l.heap
-
-abbrev pub decreases-loop-class : goal.decreases-loop-class
-decreases-loop-class l = classes - l.class

@@ -5,4 +5,4 @@ use Rattle.capi.proofs.poheldu_find_slot.Goals as goal
 
 pub numbered-requires : goal.numbered-requires
 numbered-requires c =
-    (laid_fits _ _ (sym c.in-Laid.ensures)).1.small
+    (laid_fits _ _ (sym c.in-Ok.ensures)).1.small

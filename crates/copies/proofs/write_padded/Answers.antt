@@ -5,6 +5,5 @@ use Rattle.copies.proofs.write_padded.Goals as goal
 pub returns : goal.returns
 returns c =
     let a = c.args in
-    let room = rw c.wide.ensures.0 at c.least-room.ensures in
-    padded_put a.source.now a.count a.target.now room c.least-seen.ensures c.find_zero-text.ensures
+    padded_put a.source.now a.count a.target.now c.min-room.ensures c.min-seen.ensures c.find_zero-text.ensures
     c.write.ensures.1 c.clear.ensures

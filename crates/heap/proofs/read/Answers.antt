@@ -6,6 +6,6 @@ use Rattle.heap.proofs.read.Goals as goal
 pub returns : goal.returns
 returns c =
     let a = c.args in
-    let found = c.view.ensures ∙ c.look-looked.ensures.1 in
+    let found = c.shown.ensures ∙ c.look-looked.ensures.1 in
     all_shown a.heap.now a.metadata.now a.offset a.count a.page.now a.heap.ref_ptr a.page.ref_ptr found
     c.bytes.ensures.0 c.bytes.ensures.1

@@ -2,6 +2,8 @@
 use mathlib.Core.Path.{sym, ◌∙◌}
 use native.Mathlib.Omega.{arith}
 use Rattle.search.proofs.First.{first_none}
+use Rattle.inspect.specs.Class.{is_hit_in}
+use Rattle.inspect.proofs.Within.{is_found, is_nowhere}
 use Rattle.inspect.proofs.Passing.{set_passed, intact_passed, none_intact}
 use Rattle.inspect.proofs.next_slot.Goals as goal
 
@@ -17,8 +19,10 @@ returns-then-intact-eq0 c =
     let loop = c.loop-slot in
     let a = c.args in
     let unset = sym c.is_set.ensures ∙ c.if-is_set.false in
-    sym (loop.invariant ∙ none_intact a.canary a.bytes.now a.bitmap.now a.slots a.size c.requires loop.slot
-    c.loop-slot-test.true c.first_damage.ensures c.power_quotient-intact.ensures.0 unset c.if-intact-eq0.true)
+    let here = none_intact a.canary a.bytes.now a.bitmap.now a.slots a.size c.requires loop.slot
+    c.loop-slot-test.true c.first_damage.ensures c.power_quotient-intact.ensures.0 unset c.if-intact-eq0.true
+    in
+    is_found (is_hit_in a.canary a.bytes.now a.bitmap.now a.slots a.size) _ _ (sym (loop.invariant ∙ here)) c.loop-slot-test.true
 
 pub loop-slot-preserved : goal.loop-slot-preserved
 loop-slot-preserved c =
@@ -28,4 +32,6 @@ loop-slot-preserved c =
     c.loop-slot-test.true c.first_damage.ensures c.power_quotient-intact.ensures.0
 
 pub returns : goal.returns
-returns c = sym (c.loop-slot.invariant ∙ first_none _ (omega arith))
+returns c =
+    let a = c.args in
+    is_nowhere (is_hit_in a.canary a.bytes.now a.bitmap.now a.slots a.size) _ _ (sym (c.loop-slot.invariant ∙ first_none _ (omega arith))) (omega arith)

@@ -1,14 +1,16 @@
 -- `quoted` closes the quotes, and writes dots behind them where the word is longer.
-use native.Mathlib.Omega.{arith}
-use Rattle.quoting.proofs.Showing.{closed, dotted}
+use Rattle.std.proofs.Common.{refl}
+use Rattle.quoting.proofs.Showing.{closed_whole, closed_start}
 use Rattle.quoting.proofs.quoted.Goals as goal
 
 pub returns-then-word-le-SHOWN : goal.returns-then-word-le-SHOWN
 returns-then-word-le-SHOWN c =
-    let all = closed c.args.word.now c.open-opened.ensures (omega arith) in
-    record { fact = all.0; text_value = all.1 }
+    let p = c.push.ensures in
+    let all = closed_whole c.args.word.now _ c.open-shown.ensures (p.text, p.len) c.if-word-le-SHOWN.true refl in
+    record { text = all.0; front = all.1 }
 
-pub returns : goal.returns
-returns c =
-    let all = dotted c.args.word.now c.open-opened.ensures (omega arith) in
-    record { fact = all.0; text_value = all.1 }
+pub returns-else-word-le-SHOWN : goal.returns-else-word-le-SHOWN
+returns-else-word-le-SHOWN c =
+    let p = c.push-else-word-le-SHOWN.ensures in
+    let all = closed_start c.args.word.now _ c.open-shown.ensures (p.text, p.len) c.if-word-le-SHOWN.false refl in
+    record { text = all.0; front = all.1 }

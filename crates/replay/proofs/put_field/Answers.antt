@@ -13,7 +13,7 @@ returns-clause-out_after c =
     let a = c.args in
     let p = c.put-end in
     let room = le-leb width (length a.out.now - a.at) (omega arith) in
-    let end = rw room at p.ensures.fact.0 in
+    let end = rw room at p.ensures.place.0 in
     let wrote = rw room at p.ensures.out_after in
     let kept : length p.new.out ≡ length a.out.now = p.auto.out in
     let number : Wrote a.out.now p.new.out a.at (decimal a.n) = record { bytes = wrote; room = omega arith } in

@@ -13,9 +13,9 @@ returns c =
     let g = c.put_field-third in
     let h = c.put_field in
     let first : Wrote a.out.now f.new.out 0 (field a.number 32) = record { bytes = f.ensures.out_after; room = omega arith } in
-    let second : Wrote f.new.out g.new.out f.result (field a.refusal 32) = record { bytes = g.ensures.out_after; room = omega arith } in
-    let third : Wrote g.new.out h.new.out g.result (field a.value 10) = record { bytes = h.ensures.out_after; room = omega arith } in
-    let rest = wrote_then second third g.ensures.value.0 in
-    let size = length-append (field a.number 32) (field a.refusal 32 ++ field a.value 10) in
-    let size-rest = length-append (field a.refusal 32) (field a.value 10) in
-    (omega arith, omega arith, (wrote_then first rest f.ensures.value.0).bytes)
+    let second : Wrote f.new.out g.new.out f.result (field a.reply.number 32) = record { bytes = g.ensures.out_after; room = omega arith } in
+    let third : Wrote g.new.out h.new.out g.result (field a.reply.value 10) = record { bytes = h.ensures.out_after; room = omega arith } in
+    let rest = wrote_then second third g.ensures.place.0 in
+    let size = length-append (field a.number 32) (field a.reply.number 32 ++ field a.reply.value 10) in
+    let size-rest = length-append (field a.reply.number 32) (field a.reply.value 10) in
+    (omega arith, omega arith, (wrote_then first rest f.ensures.place.0).bytes)

@@ -1,4 +1,5 @@
 -- `Layout::bitmap_start` meets its contract: a law of `Halving`, or the sum.
+use mathlib.Core.Path.{refl}
 use native.Mathlib.Omega.{arith}
 use Rattle.geometry.proofs.Geometry.{slot_size_le}
 use Rattle.geometry.proofs.Halving.{four_slots, halved_start}
@@ -18,10 +19,10 @@ nonzero_div-result-then-region-four-eq0 c = four_slots _ c.if-class-lt-CLASSES.t
 -- the region divides well
 pub overflow_sub-result : goal.overflow_sub-result
 overflow_sub-result c =
-    omega (arith, (halved_start _ c.if-class-lt-CLASSES.true c.wide-region.ensures.0 c.slot_size-four.ensures c.if-region-four-eq0.true).0)
+    omega (arith, (halved_start _ c.if-class-lt-CLASSES.true refl c.slot_size-four.ensures c.if-region-four-eq0.true).0)
 
 pub returns-then-region-four-eq0 : goal.returns-then-region-four-eq0
 returns-then-region-four-eq0 c =
     let start =
-    halved_start _ c.if-class-lt-CLASSES.true c.wide-region.ensures.0 c.slot_size-four.ensures c.if-region-four-eq0.true in
+    halved_start _ c.if-class-lt-CLASSES.true refl c.slot_size-four.ensures c.if-region-four-eq0.true in
     (start.1, omega arith)

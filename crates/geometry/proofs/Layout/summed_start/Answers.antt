@@ -7,11 +7,10 @@ use Rattle.geometry.proofs.Layout.summed_start.Goals as goal
 
 pub loop-passed-init : goal.loop-passed-init
 unfolding bitmap_at
-loop-passed-init c = (omega arith, refl, omega arith)
+loop-passed-init c = (refl, omega arith)
 
 pub loop-passed-preserved : goal.loop-passed-preserved
-loop-passed-preserved c =
-    (omega arith, bitmap_next _ _ c.loop-passed.invariant.1 c.bitmap_length-at.ensures.0, omega arith)
+loop-passed-preserved c = (bitmap_next _ _ c.loop-passed.invariant.0 c.bitmap_length-at.ensures.0, omega arith)
 
 pub returns : goal.returns
-returns c = (bitmap_same _ _ _ c.loop-passed.invariant.1 (omega arith), omega arith)
+returns c = (bitmap_same _ _ _ c.loop-passed.invariant.0 (omega arith), omega arith)

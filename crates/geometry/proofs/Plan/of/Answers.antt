@@ -15,13 +15,13 @@ grown : (c : goal.After-bitmap_length-in-loop-exponent)
 grown c =
     let last = rw c.power-in-loop-exponent.ensures.0 at c.bitmap_length-in-loop-exponent.ensures.0 in
     let front = rw c.power-in-loop-exponent-2.ensures.0 at c.bitmap_length.ensures.0 in
-    doubled_power c.loop-exponent.exponent last front c.loop-exponent.invariant.2
+    doubled_power c.loop-exponent.exponent last front c.loop-exponent.invariant.1
 
-pub returns-then-heap_len-wide : goal.returns-then-heap_len-wide
-returns-then-heap_len-wide c =
+pub returns-then-heap_len-layout : goal.returns-then-heap_len-layout
+returns-then-heap_len-layout c =
     let loop = c.loop-exponent in
-    let found = region_found _ loop.invariant.1 (omega arith) (omega arith) in
-    rw (c.power-in-loop-exponent.ensures.0, loop.invariant.2, found)
+    let found = region_found _ loop.invariant.0 (omega arith) (omega arith) in
+    rw (c.power-in-loop-exponent.ensures.0, loop.invariant.1, found)
 
 pub overflow_sub-metadata : goal.overflow_sub-metadata
 overflow_sub-metadata c = let g = grown c in omega arith
@@ -29,8 +29,8 @@ overflow_sub-metadata c = let g = grown c in omega arith
 pub loop-exponent-preserved : goal.loop-exponent-preserved
 loop-exponent-preserved c =
     let g = grown c in
-    let rest = c.loop-exponent.invariant.1 in
-    (omega arith, region_past _ rest (omega arith) (λ q. omega arith), omega arith, omega arith)
+    let rest = c.loop-exponent.invariant.0 in
+    (region_past _ rest (omega arith) (λ q. omega arith), omega arith, omega arith)
 
 pub returns : goal.returns
-returns c = rw (← region_none _ c.loop-exponent.invariant.1 (omega arith), no_bitmaps classes)
+returns c = rw (← region_none _ c.loop-exponent.invariant.0 (omega arith), no_bitmaps classes)

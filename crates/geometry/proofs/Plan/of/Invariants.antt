@@ -10,9 +10,6 @@ use Rattle.geometry.proofs.Plan.of.Given as goal
 
 abbrev pub invariant-loop-exponent : goal.invariant-loop-exponent
 invariant-loop-exponent l =
-    (l.exponent ≤ 21) × (first (is_heap l.heap_len) 10 (21 - 10) ≡ first (is_heap l.heap_len) l.exponent (21 - l.exponent))
+    (first (is_heap l.heap_len) 10 (21 - 10) ≡ first (is_heap l.heap_len) l.exponent (21 - l.exponent))
     × (l.metadata ≡ metadata_length (of_region (2 ^ l.exponent)))
     × (l.metadata ≤ header + (l.exponent + 2) * 536870912)
-
-abbrev pub decreases-loop-exponent : goal.decreases-loop-exponent
-decreases-loop-exponent l = 21 - l.exponent

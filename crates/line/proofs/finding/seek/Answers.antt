@@ -1,24 +1,19 @@
--- `seek` finds the first blank, or the first byte that is none.
-use mathlib.Core.Path.{sym, ◌∙◌}
-use native.Mathlib.Omega.{arith}
+-- Each turn's byte is as asked, or the search goes on behind it.
+use Rattle.std.proofs.Common.{◌≡◌, length, sym, ◌∙◌, arith}
 use Rattle.search.proofs.First.{first_found, first_past, first_none}
 use Rattle.line.proofs.finding.seek.Goals as goal
 
-pub returns-then-is_blank-blank : goal.returns-then-is_blank-blank
-returns-then-is_blank-blank c =
-    let l = c.loop-at in
+pub returns-then-is_blank-blank-clause-place : goal.returns-then-is_blank-blank-clause-place
+returns-then-is_blank-blank-clause-place c =
     let told = sym c.is_blank.ensures in
-    record {
-      value = sym (l.invariant.2 ∙ first_found _ (omega arith) (rw told c.if-is_blank-blank.true));
-      lower_bound = omega arith;
-    }
+    sym (c.loop-at.invariant ∙ first_found _ c.loop-at-test.true (rw told c.if-is_blank-blank.true))
 
 pub loop-at-preserved : goal.loop-at-preserved
 loop-at-preserved c =
-    let l = c.loop-at in
     let told = sym c.is_blank.ensures in
-    (omega arith, omega arith, l.invariant.2 ∙ first_past _ (omega arith) (rw told c.if-is_blank-blank.false))
+    c.loop-at.invariant ∙ first_past _ c.loop-at-test.true (rw told c.if-is_blank-blank.false)
 
-pub returns : goal.returns
-returns c =
-    record { value = sym (c.loop-at.invariant.2 ∙ first_none _ (omega arith)); lower_bound = omega arith }
+pub returns-clause-place : goal.returns-clause-place
+returns-clause-place c =
+    let last : c.loop-at.at ≡ length c.args.text.now = omega arith in
+    sym (rw last at c.loop-at.invariant ∙ first_none _ (omega arith))

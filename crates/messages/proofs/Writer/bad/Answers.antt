@@ -1,0 +1,23 @@
+-- What was expected is said, and after it the word that is found, if any.
+use Rattle.std.proofs.Common.{◌≡◌, ⊎_elim, arith}
+use mathlib.Core.List.{append-nil}
+use Rattle.line.specs.Text.{word_bytes}
+use Rattle.messages.specs.Message.{found, found_text}
+use Rattle.messages.proofs.Putting.{two_put}
+use Rattle.messages.proofs.Writer.bad.Goals as goal
+
+pub returns-in-TooLong-clause-put : goal.returns-in-TooLong-clause-put
+unfolding found_text
+returns-in-TooLong-clause-put c =
+    let e = rw c.expected.ensures.text at c.say.ensures.put in
+    rw (c.in-TooLong.is, append-nil) (rw c.in-TooLong.is at e)
+
+pub returns-in-Operation-clause-put : goal.returns-in-Operation-clause-put
+unfolding found_text
+returns-in-Operation-clause-put c =
+    let a = c.args in
+    let e = rw c.expected.ensures.text at c.say.ensures.put in
+    let f = rw c.word_bytes.ensures.1 at c.found.ensures.put in
+    let w : found_text a.line.now a.bad ≡ found (word_bytes a.line.now c.in-Operation.word) =
+    ⊎_elim (λ e. rw e) (⊎_elim (λ e. rw e) (λ e. rw e)) c.in-Operation.is in
+    rw w (two_put e f (omega arith))
