@@ -26,7 +26,7 @@ pub enum Refusal {
 
 pub type Answer = Result<u32, Refusal>;
 
-// An answer in numbers: 0 and the value, or the refusal's number and 0.
+// An answer in numbers, as C programs and printed lines have it: 0 and the value, or the refusal's number and 0.
 #[derive(Clone, Copy, Debug, PartialEq, Eq)]
 pub struct Reply {
     pub number: u32,

@@ -1,7 +1,8 @@
 // Turns lines of text from standard input into requests on standard output, and names each bad line on standard error.
 #![tactic(auto)]
 
-ghost use Rattle.std.specs.Prelude.{◌≡◌, IfOk};
+ghost use Rattle.std.specs.Prelude.{◌≡◌, ◌⊎◌, IfOk};
+ghost use Rattle.program.specs.declared.Status.TheVariants.{Done, BadLines};
 ghost use Rattle.assemble.specs.Status.{status_after};
 
 use program::{About, Failed, Status, Streams};
@@ -49,9 +50,12 @@ fn answer<W: Write, E: Write>(
 }
 
 // Reads the input to its end, and answers the status: which it is, the system decides.
+#[tactic(auto, unfolding(crate::specs::Status::status_after))]
 fn assemble_input<R: Read, W: Write, E: Write>(
     streams: &mut Streams<R, W, E>,
-) -> Result<Status, Failed> {
+) -> Result<Status, Failed>
+    ensures { IfOk result (λ status. (status ≡ Done) ⊎ (status ≡ BadLines)) }
+{
     let mut input = [0u8; INPUT];
     let mut out = [0u8; INPUT * request::SIZE];
     let mut said = [0u8; INPUT * assembly::MESSAGE];

@@ -1,15 +1,14 @@
 -- A text split at its line ends.
-use Prim.Native.Nat.{ℕ, suc, ◌+◌, ◌-◌, ◌≤◌, ◌<◌}
+use Prim.Native.Nat.{ℕ, zero, suc, ◌+◌, ◌-◌, ◌≤◌, ◌<◌}
 use native.Mathlib.Omega.{arith}
 use mathlib.Core.Path.{◌≡◌, refl, sym, ap, ◌∙◌}
 use mathlib.Core.Bool.{Bool, true, false}
 use mathlib.Core.List.{List, [], ◌∷◌, ◌++◌, append_assoc, append-nil}
 use native.Mathlib.Nat.{sub-zero}
 use native.Mathlib.Numerals.{add-one}
-use lib.ListN.{length, take, drop, length-append, length-drop, length-take}
-use lib.Seq.{take-length, take_all, drop_at}
+use lib.ListN.{length, take, drop, get_or, length-append, length-drop, length-take}
+use lib.Seq.{take_all, drop_at}
 use lib.Dec.{eqb}
-use Rattle.scan.specs.Bytes.{slice, index_of, index_after}
 use Rattle.assembly.specs.Batch.{newline, lines_from, unended_from, lines, unended}
 
 -- a text after the start of a line, the lines that it ends, and what is left: the next byte ends the line, or is one of
@@ -51,34 +50,27 @@ record First (line text : List ℕ) (k : ℕ) : Type 0 where
       Splits line text ((line ++ take k text) ∷ lines after) (unended after)
   last : length text ≤ k → Splits line text [] (line ++ text)
 
-first_end : (text line : List ℕ) → First line text (index_of newline text)
-unfolding index_of index_after
-first_end [] line = record { some = λ h. absurd (omega arith); last = λ h. rw append-nil none }
-first_end (b ∷ text) line = go (first_end text (line ++ (b ∷ []))) (eqb b newline) refl
-  where
-    go : First (line ++ (b ∷ [])) text (index_of newline text) → (t : Bool) → eqb b newline ≡ t
-        → First line (b ∷ text) (index_of newline (b ∷ text))
-    go more true e =
-        rw e
-        record {
-          some = λ h. rw append-nil (end e (splits text []));
-          last = λ h. absurd (omega arith);
-        }
-    go more false e =
-        let start = take (index_of newline text) text in
-        rw e
-        record {
-          some = λ h. rw (← append_assoc line (b ∷ []) start) (byte e (more.some (omega arith)));
-          last = λ h. rw (← append_assoc line (b ∷ []) text) (byte e (more.last (omega arith)));
-        }
+first_end : (text line : List ℕ) (k : ℕ) → k ≤ length text → ((j : ℕ) → j < k → eqb (get_or text j 0) newline ≡ false)
+    → (k < length text → eqb (get_or text k 0) newline ≡ true) → First line text k
+first_end [] line zero h before at = record { some = λ h. absurd (omega arith); last = λ h. rw append-nil none }
+first_end [] line (suc k) h before at = absurd (omega arith)
+first_end (b ∷ text) line zero h before at =
+    let e : eqb b newline ≡ true = at (omega arith) in
+    record {
+      some = λ h. rw append-nil (end e (splits text []));
+      last = λ h. absurd (omega arith);
+    }
+first_end (b ∷ text) line (suc k) h before at =
+    let e : eqb b newline ≡ false = before zero (omega arith) in
+    let rest : (j : ℕ) → j < k → eqb (get_or text j 0) newline ≡ false = λ j l. before (suc j) (omega arith) in
+    let more = first_end text (line ++ (b ∷ [])) k (omega arith) rest (λ l. at (omega arith)) in
+    record {
+      some = λ h. rw (← append_assoc line (b ∷ []) (take k text)) (byte e (more.some (omega arith)));
+      last = λ h. rw (← append_assoc line (b ∷ []) text) (byte e (more.last (omega arith)));
+    }
 
--- a text whose first line end is found, or found to be missing
-module _ (text : List ℕ) (end : ℕ) (found : end ≡ 0 + index_of newline (slice 0 (length text) text)) where
-  here : First [] text end
-  here =
-      let e : end ≡ index_of newline text = omega (arith, rw take-length at found) in
-      rw e (first_end text [])
-
+-- a text whose first line end is at a place, or that has none before it
+module _ (text : List ℕ) (end : ℕ) (before : (k : ℕ) → k < end → eqb (get_or text k 0) newline ≡ false) where
   -- the line, and what comes after its end
   abbrev pub line : List ℕ
   line = take (end - 0) text
@@ -86,16 +78,18 @@ module _ (text : List ℕ) (end : ℕ) (found : end ≡ 0 + index_of newline (sl
   abbrev pub after : List ℕ
   after = take (length text - (end + 1)) (drop (end + 1) text)
 
-  pub line_found : end < length text → (lines text ≡ line ∷ lines after) × (unended text ≡ unended after)
+  pub line_found : end < length text → eqb (get_or text end 0) newline ≡ true → (lines text ≡ line ∷ lines after) × (unended text ≡ unended after)
       × (length text ≡ length line + (1 + length after))
-  line_found h =
+  line_found h at =
       let all : length (drop (end + 1) text) ≤ length text - (end + 1) = rw length-drop (omega arith) in
       let rest : after ≡ drop (end + 1) text = take_all (length text - (end + 1)) (drop (end + 1) text) all in
-      let s : Splits [] text (line ∷ lines after) (unended after) = rw (rest, sub-zero, add-one) (here.some h) in
+      let s : Splits [] text (line ∷ lines after) (unended after) = rw (rest, sub-zero, add-one) ((first_end text [] end (omega arith) before (λ l. at)).some h) in
       (split_lines s, split_rest s, rw rest (simp (length-take, length-drop) (omega arith)))
 
-  pub no_line : length text ≤ end → (lines text ≡ []) × (unended text ≡ text)
-  no_line h = (split_lines (here.last h), split_rest (here.last h))
+  pub no_line : end ≡ length text → (lines text ≡ []) × (unended text ≡ text)
+  no_line h =
+      let s : Splits [] text [] text = (first_end text [] end (omega arith) before (λ l. absurd (omega arith))).last (omega arith) in
+      (split_lines s, split_rest s)
 
 -- what is left of a text is its end
 left_at_end : {line text left : List ℕ} {ls : List (List ℕ)} → Splits line text ls left

@@ -8,7 +8,7 @@ use native.Mathlib.Omega.{arith}
 use lib.ListN.{length, take, drop}
 use lib.Seq.{length-take-le}
 use Rattle.writing.specs.Overwrite.{overwrite}
-use Rattle.writing.proofs.Parts.{drop_take}
+use Rattle.std.proofs.lemmas.List.{drop-take}
 use Rattle.numbers.proofs.Cut.{take_min}
 use Rattle.assembly.specs.Batch.{unended, requests_in, messages_in, turn_of, fits, admitted}
 use Rattle.assembly.specs.Pieces.{longest_start}
@@ -62,7 +62,7 @@ module _ (input : List ℕ) (before got number : ℕ) (out errors : List ℕ) {e
         let (small, part) = unended_part (front len buffer) in
         let all : len - done.kept + done.kept ≡ len - 0 = omega (arith, size, kept) in
         let place : len - done.kept ≡ length (front len buffer) - length (unended (front len buffer)) = omega (arith, size, kept) in
-        rw (← drop_take (len - done.kept) done.kept buffer, all, place) part
+        rw (← drop-take (len - done.kept) done.kept buffer, all, place) part
 
     pub a_turn : {n k : ℕ} {input' out' errors' : List ℕ} → n ≡ min longest_start done.kept
         → let start = take n (drop (len - done.kept) buffer) in (k ≡ length start) × (input' ≡ overwrite buffer 0 start)

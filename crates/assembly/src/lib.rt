@@ -65,10 +65,7 @@ fn first_line(text: &[u8]) -> Option<(&[u8], &[u8])>
         (λ p. (lines text.now ≡ p.0.now ∷ lines p.1.now) × (unended text.now ≡ unended p.1.now)
         × (length text.now ≡ length p.0.now + (1 + length p.1.now))) }
 {
-    let end = scan::find(text, 0, text.len(), NEWLINE);
-    if end == text.len() {
-        return None;
-    }
+    let end = text.iter().position(|byte| *byte == NEWLINE)?;
     Some((&text[0..end], &text[end + 1..]))
 }
 
@@ -121,7 +118,8 @@ fn gather(input: &mut [u8], kept: usize, got: usize) -> usize
 
 // Reads the lines of an input at the front of which `kept` bytes were kept by the turn before and behind them `got`
 // bytes read, 0 at its end, and writes their requests and messages. Where these may not fit, or the lines' numbers 64
-// bits, nothing is read, written or kept. (`kept` comes from the turn before and `got` from a read: no one type.)
+// bits, nothing is read, written or kept. `kept` and `got` are two numbers, no struct: the clause `turn` gives them to
+// the definition `assemble` one by one, and takes any two, also such as no turn or read gives.
 pub fn assemble(
     input: &mut [u8],
     kept: usize,

@@ -2,10 +2,10 @@
 use Prim.Native.Nat.{ℕ, min, ◌+◌, ◌-◌, ◌%◌, ◌<◌, ◌≤◌}
 use mathlib.Core.Path.{◌≡◌, refl, sym, ap, ◌∙◌}
 use mathlib.Core.List.{List, [], ◌++◌, append-nil, append_assoc}
-use native.Mathlib.Nat.{zero-add, sub-zero, le_of_eq, add-sub_cancel_left, add-mod, mod-mod, mod-eq_of_lt}
+use native.Mathlib.Nat.{zero-add, le_of_eq, add-sub_cancel_left, add-mod, mod-mod, mod-eq_of_lt}
 use native.Mathlib.Omega.{arith}
 use lib.ListN.{length, take, drop, get_or, length-append, length-take, length-drop, drop_of_length-le}
-use lib.Seq.{take_all, take_at, take-length, length-take-le, drop_at, drop-drop, drop-length, get_or-take, ext_get_or}
+use lib.Seq.{take_all, take_at, length-take-le, drop_at, drop-drop, drop-length, get_or-take, ext_get_or}
 use Rattle.words.specs.Word.{bytes_of}
 use Rattle.writing.specs.Overwrite.{overwrite}
 use Rattle.search.specs.Tabulate.{tabulate}
@@ -100,20 +100,6 @@ module _ (pattern before now : List ℕ) {w : List ℕ} {r : ℕ} (at : ℕ) (ke
 
 -- ---- the front again
 
--- the first bytes, copied to a block and from there to a place
-pub repeated : (xs z : List ℕ) (at len : ℕ) {block w : List ℕ} → at + len ≤ length xs
-    → block ≡ take (length (take (len - 0) xs)) (take (len - 0) xs) ++ drop (length (take (len - 0) xs)) z
-    → w ≡ take (length (take (len - 0) block)) (take (len - 0) block) ++ drop (length (take (len - 0) block)) (take (at + len - at) (drop at xs))
-    → take at xs ++ (w ++ drop (at + len - at) (drop at xs)) ≡ overwrite xs at (take len xs)
-repeated xs z at len {block} {w} room e f =
-    let size : length (take len xs) ≡ len = length-take-le len xs (omega arith) in
-    let made : block ≡ take len xs ++ drop len z = rw (sub-zero len, take-length (take len xs), size) at e in
-    let front : take len block ≡ take len xs = rw made (take_at (take len xs) (drop len z) len size) in
-    let lent : length (take len (drop at xs)) ≡ len = length-take-le len (drop at xs) (rw length-drop (omega arith)) in
-    let none : drop len (take len (drop at xs)) ≡ [] = rw lent at (drop-length (take len (drop at xs))) in
-    let wrote : w ≡ take len xs = rw (sub-zero len, add-sub_cancel_left at len, front, take-length (take len xs), size, none, append-nil) at f in
-    rw (wrote, add-sub_cancel_left at len, size)
-
 -- the front is filled by itself
 module _ (canary : ℕ) (before : List ℕ) (at : ℕ) {w : List ℕ} (wrote : w ≡ filled canary (length (take at before))) (inside : at ≤ length before) where
   front_filled : w ++ drop at before ≡ filled canary at ++ drop at before
@@ -140,9 +126,6 @@ repeat_more canary before {now} at len whole h e wrote =
 module _ (most n at : ℕ) {part len : ℕ} (p : part ≡ min most at) (l : len ≡ min part (n - at)) (more : at < n) where
   pub copy_fits : (at + len ≤ n) × (len ≤ at) × (len ≤ most)
   copy_fits = (omega arith, omega arith, omega arith)
-
-  pub copy_less : 0 < most → 0 < at → n - (at + len) < n - at
-  copy_less h k = omega arith
 
   pub copy_whole : most % 4 ≡ 0 → at % 4 ≡ 0 → at + len < n → (at + len) % 4 ≡ 0
   copy_whole e f k = omega arith

@@ -67,7 +67,8 @@ pub fn fill_slots(heap: &mut [u8], layout: Layout, canary: u32)
     }
 }
 
-// The first damaged byte; the bytes' length where there is none.
+// The first damaged byte; the bytes' length where there is none, as the definition `first_damage` has it: so many bytes
+// hold the canary.
 #[tactic(auto, using(crate::proofs::Damage::damage_found))]
 pub fn first_damage(bytes: &[u8], canary: u32) -> usize
     ensures { result ≡ first_damage canary bytes.now }

@@ -5,7 +5,7 @@ use Rattle.geometry.specs.Layout.{region_of, layout_of, metadata_length}
 use Rattle.view.specs.declared.Place.{Place}
 use Rattle.view.specs.declared.Place.TheVariants.{Heap, Page}
 use Rattle.rules.specs.Call.{Call}
-use Rattle.vote.specs.Decide.{Tally}
+use Rattle.vote.specs.declared.Tally.{Tally}
 use Rattle.capi.specs.declared.PohelduAnswer.{PohelduAnswer}
 use Rattle.capi.specs.declared.PohelduVerdict.{PohelduVerdict}
 use Rattle.capi.specs.declared.PohelduPart.{PohelduPart}

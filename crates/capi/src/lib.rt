@@ -4,22 +4,21 @@
 
 mod slots;
 
-ghost use Rattle.std.specs.Prelude.{◌≡◌, length, Ok};
+ghost use Rattle.std.specs.Prelude.{◌≡◌, length};
 ghost use Rattle.answer.specs.Reply.{reply_of};
 ghost use Rattle.rules.specs.Open.{setup};
 ghost use Rattle.rules.specs.Serve.{lent_with};
 ghost use Rattle.rules.specs.Call.{serve, reading, opening};
 ghost use Rattle.rules.specs.Inspect.{inspection};
-ghost use Rattle.vote.specs.Decide.{decide, tally, tally_of, refused_with, output_after};
-ghost use Rattle.whole.specs.Whole.{whole, answer_of};
+ghost use Rattle.vote.specs.Decide.{decide, tally, output_after};
+ghost use Rattle.whole.specs.Whole.{whole};
 ghost use Rattle.capi.specs.Numbers.{reply_in, tally_in, read_part, metadata_for, interface};
 ghost use Rattle.capi.specs.Slots.{nth_slot, find_slot, count_slots, stored_pattern};
 
-use answer::{Answer, Refusal, Reply};
+use answer::{Answer, Reply};
 use geometry::{CANARY, Plan};
 use view::Place;
-use vote::Elected;
-use whole::Failure;
+use vote::Tally;
 
 #[repr(C)]
 #[derive(Clone, Copy)]
@@ -129,48 +128,15 @@ pub extern "C" fn poheldu_inspect(heap: &[u8], metadata: &[u8], list: &mut [u32]
     inspect::inspect(heap, metadata, list).into()
 }
 
-fn agreed(elected: Elected) -> PohelduVerdict
-    ensures { tally_in result ≡ tally_of (Ok elected) }
-{
-    PohelduVerdict {
-        number: 0,
-        mask: elected.mask,
-        value: elected.count,
-        replica: elected.replica,
-    }
-}
+impl From<Tally> for PohelduVerdict {
+    ghost from_gives = { λ tally numbers. tally_in numbers ≡ tally };
 
-// A vote that is refused names nobody.
-fn refused(refusal: Refusal, value: u32) -> PohelduVerdict
-    ensures { tally_in result ≡ refused_with refusal value }
-{
-    PohelduVerdict {
-        number: u32::from(refusal),
-        mask: 0,
-        value,
-        replica: 0,
-    }
-}
-
-impl From<Result<Elected, Refusal>> for PohelduVerdict {
-    ghost from_gives = { λ verdict numbers. tally_in numbers ≡ tally_of verdict };
-
-    fn from(verdict: Result<Elected, Refusal>) -> PohelduVerdict {
-        match verdict {
-            Ok(elected) => agreed(elected),
-            Err(refusal) => refused(refusal, 0),
-        }
-    }
-}
-
-impl From<Result<Elected, Failure>> for PohelduVerdict {
-    ghost from_gives = { λ verdict numbers. tally_in numbers ≡ answer_of verdict };
-
-    fn from(verdict: Result<Elected, Failure>) -> PohelduVerdict {
-        match verdict {
-            Ok(elected) => agreed(elected),
-            Err(Failure::Split { block }) => refused(Refusal::NoAgreement, block),
-            Err(Failure::Refused(refusal)) => refused(refusal, 0),
+    fn from(tally: Tally) -> PohelduVerdict {
+        PohelduVerdict {
+            number: tally.number,
+            mask: tally.mask,
+            value: tally.value,
+            replica: tally.replica,
         }
     }
 }
@@ -185,7 +151,7 @@ pub extern "C" fn poheldu_vote(
     ensures { let d = decide blocks.now replicas block_len (length output.old) in
         (tally_in result ≡ tally d) × (output.new ≡ output_after d output.old) }
 {
-    vote::vote(blocks, replicas, block_len, output).into()
+    Tally::from(vote::vote(blocks, replicas, block_len, output)).into()
 }
 
 #[unsafe(no_mangle)]
@@ -198,7 +164,7 @@ pub extern "C" fn poheldu_vote_whole(
     ensures { let voted = whole outputs.now replicas len output.old in
         (tally_in result ≡ voted.answer) × (output.new ≡ voted.output) }
 {
-    whole::vote(outputs, replicas, len, output).into()
+    whole::tally(whole::vote(outputs, replicas, len, output)).into()
 }
 
 // 0 where no heap has this length.
@@ -214,6 +180,7 @@ pub extern "C" fn poheldu_metadata_length(heap_len: usize) -> usize
 }
 
 // ---- What lies where: lengths are judged as a request's are, and all is 0 where they are refused.
+// A `match`, since `numbered` in a closure of `map_or` did not prove that the layout fits.
 
 // The slot of a class with a number.
 #[unsafe(no_mangle)]

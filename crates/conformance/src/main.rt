@@ -24,12 +24,11 @@ ghost use Rattle.replay.specs.Opened.{opened_state};
 ghost use Rattle.conformance.specs.Case.{heap_room, metadata_room, source_room, requests_room, case_of};
 ghost use Rattle.conformance.specs.Digest.{digest};
 
-use answer::{Refusal, Reply};
+use answer::Reply;
 use geometry::Plan;
 use program::Failed;
 use std::io::{Read, Write};
-use vote::{Elected, LONGEST_BLOCK};
-use whole::Failure;
+use vote::{LONGEST_BLOCK, Tally};
 
 // Room for the bytes of a heap, of its metadata and of a source, and for requests.
 const HEAP: usize = 98304;
@@ -176,38 +175,6 @@ fn print_run<W: Write, E: Write>(
     Ok(())
 }
 
-// A vote's answer in numbers: the refusal's, the mask of those that agree, how many these are or the block without
-// agreement, and the first of them.
-#[derive(Clone, Copy)]
-struct Tally {
-    number: u32,
-    mask: u32,
-    value: u32,
-    replica: u32,
-}
-
-impl Tally {
-    fn refused(refusal: Refusal, value: u32) -> Tally {
-        Tally {
-            number: u32::from(refusal),
-            mask: 0,
-            value,
-            replica: 0,
-        }
-    }
-}
-
-impl From<Elected> for Tally {
-    fn from(elected: Elected) -> Tally {
-        Tally {
-            number: 0,
-            mask: elected.mask,
-            value: elected.count,
-            replica: elected.replica,
-        }
-    }
-}
-
 // Prints the line of a vote: its answer in numbers, and a digest of its output.
 fn print_tally<W: Write>(lines: &mut W, word: &str, tally: Tally, output: &[u8]) {
     print_line(
@@ -234,10 +201,7 @@ fn print_vote<W: Write>(
     ensures { let d = decide blocks.now replicas block_len (length output.old) in
         output.new ≡ output_after d output.old }
 {
-    let tally = match vote::vote(blocks, replicas, block_len, output) {
-        Ok(elected) => Tally::from(elected),
-        Err(refusal) => Tally::refused(refusal, 0),
-    };
+    let tally = Tally::from(vote::vote(blocks, replicas, block_len, output));
     print_tally(lines, "vote", tally, output);
 }
 
@@ -252,11 +216,7 @@ fn print_whole<W: Write>(
     ensures { let voted = whole outputs.now replicas len output.old in
         output.new ≡ voted.output }
 {
-    let tally = match whole::vote(outputs, replicas, len, output) {
-        Ok(elected) => Tally::from(elected),
-        Err(Failure::Split { block }) => Tally::refused(Refusal::NoAgreement, block),
-        Err(Failure::Refused(refusal)) => Tally::refused(refusal, 0),
-    };
+    let tally = whole::tally(whole::vote(outputs, replicas, len, output));
     print_tally(lines, "whole", tally, output);
 }
 

@@ -1,12 +1,13 @@
 -- What copies write in a given room.
-use Prim.Native.Nat.{ℕ, zero, suc, min, ◌+◌, ◌-◌, ◌<◌, ◌≤◌}
+use Prim.Native.Nat.{ℕ, suc, min, ◌+◌, ◌-◌, ◌<◌, ◌≤◌}
 use mathlib.Core.Path.{◌≡◌, refl, sym, ap, ◌∙◌}
-use mathlib.Core.List.{List, ◌∷◌, ◌++◌, append_assoc, append-nil}
+use mathlib.Core.List.{List, ◌++◌, append_assoc, append-nil}
 use native.Mathlib.Nat.{sub_self}
 use native.Mathlib.Decide.{dec_le}
 use native.Mathlib.Omega.{arith}
 use lib.ListN.{length, take, drop, replicate, length-append, length-take, length-drop, length-replicate}
 use lib.Seq.{take_all, drop-length, length-take-le, take-take, take_at, drop_at, drop-drop, take-append-le, take-append-add}
+use Rattle.std.proofs.lemmas.List.{take-replicate}
 use Rattle.scan.specs.Bytes.{index_of}
 use Rattle.copies.proofs.Index.{index_le}
 use Rattle.request.specs.declared.Kind.TheVariants.{String, Padded}
@@ -43,11 +44,6 @@ module _ (s : List ℕ) (room : ℕ) {seen end : ℕ} (fit : seen ≡ min (lengt
 sub_le : {a b : ℕ} (c : ℕ) → a ≤ b → a - c ≤ b - c
 sub_le c h = omega arith
 
-take_zeros : (k n : ℕ) → k ≤ n → take k (replicate n 0) ≡ replicate {A = ℕ} k 0
-take_zeros zero n h = refl
-take_zeros (suc k) zero h = absurd (omega arith)
-take_zeros (suc k) (suc n) h = ap (λ (l : List ℕ). 0 ∷ l) (take_zeros k n (omega arith))
-
 module _ (s : List ℕ) (count : ℕ) where
   k : ℕ
   k = index_of 0 s
@@ -81,7 +77,7 @@ module _ (s : List ℕ) (count : ℕ) where
             let whole : text ≡ k = omega arith in
             let split : room ≡ length (take k s) + (room - k) = rw size (omega arith) in
             rw whole (ap (λ (n : ℕ). take n padded) split
-            ∙ take-append-add (take k s) (replicate count 0) (room - k) ∙ rw (take_zeros (room - k) count (omega arith)))
+            ∙ take-append-add (take k s) (replicate count 0) (room - k) ∙ rw (take-replicate {X = ℕ} (room - k) count 0 (omega arith)))
         go (no h) =
             let none : text ≡ room = omega arith in
             rw (none, take-append-le room (take k s) (replicate count 0) (rw size (omega arith)), take-take room k s (omega arith), sub_self, append-nil)

@@ -17,7 +17,7 @@ pub fn clear(bytes: &mut [u8])
     bytes.fill_with(|| 0);
 }
 
-// The index of the first zero byte of the first `count`; `count` where there is none.
+// How many of the first `count` bytes stand before a zero byte: a length to copy, and so no Option.
 #[tactic(auto, using(crate::proofs::Index::index_front))]
 fn find_zero(source: &[u8], count: usize) -> usize
     requires { count ≤ length source.now }

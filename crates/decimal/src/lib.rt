@@ -62,7 +62,7 @@ fn glyph(digit: u64) -> u8
 }
 
 // Writes a number at a place, and answers the place after it. Where there may be no room for a number, nothing is
-// written.
+// written. Buffer and place are two, as its clauses name them.
 pub fn put(out: &mut [u8], at: usize, n: u64) -> usize
     ensures place { let text = decimal_within (length out.old - at) n in
         (result ≡ at + length text) × (result ≤ at + width) }

@@ -20,7 +20,8 @@ pub const CANARY: usize = COUNTS + 4 * CLASSES;
 // The length of the fields before the bitmaps.
 pub const HEADER: usize = CANARY + 4;
 
-// How a heap is laid out. A region length of 0 stands for no heap: it has no slots.
+// How a heap is laid out. A region length of 0 stands for no heap, as in the definitions, where no slot of it is asked
+// for: it has none.
 #[derive(Clone, Copy)]
 pub struct Layout {
     pub region: u32,
@@ -58,7 +59,7 @@ fn power(exponent: u32) -> u32
 }
 
 impl Layout {
-    // The bytes of a slot; 0 past the last class.
+    // The bytes of a slot; 0 past the last class, as the definition `slot_size` has it, and so no Option.
     #[tactic(auto, unfolding(crate::specs::Layout::slot_size))]
     pub fn slot_size(self, class: usize) -> usize
         ensures { result ≡ slot_size self class }

@@ -30,9 +30,6 @@ module _ (G : Layout) (m h : List ℕ) (offset : ℕ) (kind : Kind) (source : Li
   roomy : length lent_part ≡ room
   roomy = rw (add-sub_cancel_left a room) (length-take-le room (drop a h) (rw length-drop (omega arith)))
 
-  pub copied_le : {n : ℕ} → n ≡ length text → n ≤ room
-  copied_le e = omega (arith, writes_le kind source (length lent_part), roomy)
-
   -- with that the heap is written over from the offset on
   pub copied : {n : ℕ} {ys : List ℕ} → n ≡ length text → ys ≡ overwrite lent_part 0 text
       → (served n ≡ reply G (copy G m offset kind source))

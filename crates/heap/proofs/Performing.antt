@@ -6,10 +6,9 @@ use lib.ListN.{take-append-drop}
 use Rattle.geometry.specs.declared.Layout.{Layout}
 use Rattle.request.specs.declared.Kind.{Kind}
 use Rattle.rules.specs.Outcome.{Outcome, metadata_after, heap_after}
-use Rattle.rules.specs.Allocate.{allocate}
 use Rattle.rules.specs.Object.{remaining, copy}
 use Rattle.rules.specs.Read.{read}
-use Rattle.rules.proofs.Outcomes.{Comes, refuses, serves, allocate_comes, remaining_comes, copy_comes, read_comes}
+use Rattle.rules.proofs.Outcomes.{Comes, refuses, serves, remaining_comes, copy_comes, read_comes}
 
 -- a refusal leaves the heap and the metadata alone
 heap_left : (G : Layout) (m h : List ℕ) {o o' : Outcome} → Comes o o' → heap_after G m h o ≡ h → h ≡ heap_after G m h o'
@@ -31,9 +30,6 @@ module _ (G : Layout) (m : List ℕ) where
   read_metadata offset count page_bytes = metadata_left G m (read_comes G m offset count page_bytes) refl
 
   module _ (h : List ℕ) where
-    pub allocate_heap : (size : ℕ) → h ≡ heap_after G m h (allocate G m size)
-    allocate_heap size = heap_left G m h (allocate_comes G m size) refl
-
     -- measuring writes no bytes
     pub remaining_heap : (offset : ℕ) → h ≡ heap_after G m h (remaining G m offset)
     remaining_heap offset = heap_left G m h (remaining_comes G m offset) (take-append-drop offset h)

@@ -1,31 +1,13 @@
--- What each way through a read comes to, where it lies and how many bytes it shows.
-use Prim.Native.Nat.{ℕ, ◌<◌, ◌≤◌}
+-- What a read shows: where it lies and how many bytes it is.
+use Prim.Native.Nat.{ℕ}
 use mathlib.Core.Path.{◌≡◌, sym, ap, ◌∙◌}
 use mathlib.Core.List.{List}
-use borrow.Author.Tests.{le-leb, lt-leb}
 use lib.ListN.{length}
-use Rattle.geometry.specs.declared.Layout.{Layout}
-use Rattle.geometry.specs.Layout.{heap_length}
-use Rattle.answer.specs.declared.Refusal.TheVariants.{OutOfRange}
 use Rattle.view.specs.declared.View.{View}
 use Rattle.view.specs.View.{view_bytes, address_of, place_within}
-use Rattle.rules.specs.Outcome.{refused, shown}
-use Rattle.rules.specs.Object.{space}
-use Rattle.view.specs.View.{within}
-use Rattle.rules.specs.Read.{read}
 use Rattle.rules.specs.Call.{Call, reading}
 use Rattle.view.proofs.Lying.{view_length, view_within}
 use Rattle.rules.proofs.Showing.{shown_lies, shown_value}
-
-module _ (G : Layout) (m : List ℕ) (offset count page_bytes : ℕ) where
-  pub past_end : heap_length G ≤ offset → read G m offset count page_bytes ≡ refused OutOfRange
-  unfolding read
-  past_end h = rw (le-leb (heap_length G) offset h)
-
-  pub shows : offset < heap_length G → {room : ℕ} → room ≡ space G m offset
-      → read G m offset count page_bytes ≡ shown (within offset room count page_bytes)
-  unfolding read
-  shows inside measured = rw (lt-leb (heap_length G) offset inside, measured)
 
 -- what is shown lies where its place says, and has as many bytes as the value says
 module _ (heap m : List ℕ) (offset count : ℕ) (page : List ℕ) (heap_at page_at : ℕ × ℕ) where

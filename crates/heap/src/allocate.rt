@@ -32,7 +32,7 @@ impl Heap<'_> {
         if part.slots < 2 {
             return Err(Refusal::ClassTooSmall);
         }
-        let metadata = self.lend();
+        let metadata = self.as_metadata();
         let count = metadata.count(class);
         if part.slots / 2 <= count as usize {
             return Err(Refusal::ClassAtCapacity);

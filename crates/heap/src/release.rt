@@ -2,8 +2,8 @@
 ghost use Rattle.rules.specs.Object.{free};
 
 use crate::lent::Heap;
+use crate::object::is_past;
 use answer::{Answer, Refusal};
-use geometry::CLASSES;
 
 impl Heap<'_> {
     ghost use Rattle.heap.specs.Carried.{IsCarried};
@@ -15,7 +15,7 @@ impl Heap<'_> {
             IsCarried h self.new result (free h.layout h.metadata.now offset) }
     {
         let layout = self.layout;
-        if CLASSES * layout.region as usize <= offset as usize {
+        if is_past(layout, offset) {
             return Err(Refusal::OutOfRange);
         }
         let at = layout.locate(offset);
@@ -23,7 +23,7 @@ impl Heap<'_> {
             return Err(Refusal::NotASlotStart);
         }
         let part = layout.part(at.class);
-        let metadata = self.lend();
+        let metadata = self.as_metadata();
         if !bitmap::is_set(&metadata.bytes[part.start..part.end], part.slots, at.slot) {
             return Err(Refusal::NotAllocated);
         }

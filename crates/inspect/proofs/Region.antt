@@ -13,8 +13,8 @@ use lib.Dec.{ltb, eqb}
 use lib.ListN.{length, take, drop, length-drop}
 use lib.Seq.{length-take-le, drop-drop, take-take}
 use Rattle.search.specs.First.{first}
-use Rattle.search.proofs.First.{first_found, first_skip, first_none, first_range, first_passes, first_before}
-use Rattle.writing.proofs.Parts.{drop_take}
+use Rattle.search.proofs.First.{first_found, first_skip, first_none, first_range, first_passes, first_before, first_early, first_later}
+use Rattle.std.proofs.lemmas.List.{drop-take}
 use Rattle.geometry.specs.declared.Layout.{Layout}
 use Rattle.geometry.specs.declared.Location.{Location}
 use Rattle.geometry.specs.declared.Part.{Part}
@@ -84,17 +84,34 @@ module _ (G : Layout) (from class : ℕ) {n : ℕ} (some : 0 < G.region) (fits :
   pub turn_inside : max from (class * G.region) < n
   turn_inside = omega (arith, turn_ends)
 
-  pub turn_class : suc (max from (class * G.region) / G.region) * G.region ≡ suc class * G.region
+  abbrev turn_at : ℕ
+  turn_at = max from (class * G.region)
+
+  turn_class : suc (turn_at / G.region) * G.region ≡ suc class * G.region
   turn_class =
-      let at : ℕ = max from (class * G.region) in
-      let split : at ≡ class * G.region + (at - class * G.region) = omega arith in
-      let is : at / G.region ≡ class =
+      let split : turn_at ≡ class * G.region + (turn_at - class * G.region) = omega arith in
+      let is : turn_at / G.region ≡ class =
       ap (λ (y : ℕ). y / G.region) split ∙ digits_div class (omega (arith, turn_ends, suc-mul class G.region)) in
       rw is
 
   -- then the next one is left whole
-  pub turn_next : (max from (class * G.region) ≤ suc class * G.region) × (suc class * G.region ≤ n) × (max from (suc class * G.region) ≡ suc class * G.region)
+  turn_next : (turn_at ≤ suc class * G.region) × (suc class * G.region ≤ n) × (max from (suc class * G.region) ≡ suc class * G.region)
   turn_next = omega (arith, turn_ends)
+
+  -- what the look through the part comes to
+  module _ (test : ℕ → Bool) (passed : first test from (n - from) ≡ first test turn_at (n - turn_at)) where
+    pub turn_found : {hit : ℕ} → Some hit ≡ first_within test turn_at (suc (turn_at / G.region) * G.region) → Some hit ≡ first_within test from n
+    turn_found e =
+        let (before, inside, next) = turn_next in
+        let (here, within) = found_at test turn_at (suc class * G.region) (rw turn_class at e) in
+        is_found test from n (here ∙ sym (passed ∙ first_early test before inside (rw here at within))) (omega (arith, within, inside))
+
+    pub turn_over : None ≡ first_within test turn_at (suc (turn_at / G.region) * G.region)
+        → let at = max from (suc class * G.region) in first test from (n - from) ≡ first test at (n - at)
+    turn_over e =
+        let (before, inside, next) = turn_next in
+        let over = nowhere_before test turn_at (suc class * G.region) (rw turn_class at e) in
+        passed ∙ rw next (first_later test before inside over)
 
 module _ (G : Layout) (m h : List ℕ) (c : ℕ) where
   abbrev pub in_class : ℕ → Bool
@@ -109,7 +126,7 @@ module _ (G : Layout) (m h : List ℕ) (c : ℕ) where
       let room : i * s + (slots G c * s - i * s) ≡ slots G c * s = omega (arith, suc-mul i s) in
       let part : drop (i * s) (slots_of G c h) ≡ take (slots G c * s - i * s) (drop (slot_start G c i) h) =
       ap (λ (n : ℕ). drop (i * s) (take n (drop (c * G.region) h))) (sym room)
-      ∙ drop_take (i * s) (slots G c * s - i * s) (drop (c * G.region) h)
+      ∙ drop-take (i * s) (slots G c * s - i * s) (drop (c * G.region) h)
       ∙ ap (take (slots G c * s - i * s)) (drop-drop (i * s) (c * G.region) h) in
       sym (ap (take s) part ∙ take-take s (slots G c * s - i * s) (drop (slot_start G c i) h) (omega (arith, suc-mul i s)))
 

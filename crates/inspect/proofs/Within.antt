@@ -7,6 +7,7 @@ use native.Mathlib.Omega.{arith}
 use borrow.Author.Tests.{lt-ltb, le-ltb, ltb-true, ltb-false}
 use lib.Dec.{ltb}
 use Rattle.search.specs.First.{first}
+use Rattle.search.proofs.First.{first_range}
 use Rattle.inspect.specs.Class.{first_within}
 
 some_same : {i j : ℕ} → ◌≡◌ {A = Option ℕ} (Some i) (Some j) → i ≡ j
@@ -30,6 +31,9 @@ module _ (test : ℕ → Bool) (from to : ℕ) where
           let same : i ≡ first test from (to - from) = some_same (rw l at e) in
           (same, rw same (ltb-true _ _ l))
       go false l = absurd (some_none (rw l at e))
+
+  pub found_within : {i : ℕ} → Some i ≡ first_within test from to → (from ≤ i) × (i < to)
+  found_within e = let (is, within) = found_at e in (rw is (first_range test from (to - from)).0, within)
 
   pub nowhere_before : None ≡ first_within test from to → to ≤ first test from (to - from)
   nowhere_before e = go (ltb (first test from (to - from)) to) refl

@@ -84,6 +84,7 @@ impl Heap<'_> {
             result ≡ first_within (is_hit h.layout h.metadata.now h.bytes.now) from (length h.bytes.now) }
     {
         let region = self.layout.region as usize;
+        // Not by `find_map`: the proof of what it finds over a range did not close.
         for class in power_quotient(from, region)..CLASSES {
             if let Some(hit) = self.next_in_region(from.max(class * region)) {
                 return Some(hit);
@@ -92,7 +93,8 @@ impl Heap<'_> {
         None
     }
 
-    // Writes the hits as far as the list goes, and answers how many they are.
+    // Writes the hits as far as the list goes, and answers how many they are. It counts by itself, since hits past the
+    // list's end count too, and each search begins right behind the last hit.
     fn collect(self, list: &mut [u32]) -> usize
         ensures { let h = self.entry in
             let found = hits h.layout h.metadata.now h.bytes.now in

@@ -12,7 +12,8 @@ use Rattle.rules.specs.Open.{setup}
 use Rattle.rules.specs.Serve.{lent_with, lent}
 use Rattle.rules.specs.Call.{Call, serve, opening}
 use Rattle.rules.specs.Inspect.{Inspection, inspection}
-use Rattle.vote.specs.Decide.{Decision, Tally, decide, tally, output_after}
+use Rattle.vote.specs.declared.Tally.{Tally}
+use Rattle.vote.specs.Decide.{Decision, decide, tally, output_after}
 
 -- what the definitions give, and what is right
 pub record Row : Type 0 where

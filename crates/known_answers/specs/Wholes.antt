@@ -1,7 +1,8 @@
 -- Worked examples of whole votes, as rows of a table.
 use Rattle.std.specs.Prelude.{ℕ, ◌*◌, cond, List, [], ◌∷◌, ◌++◌, length, replicate, eqb}
 use Rattle.search.specs.Tabulate.{tabulate}
-use Rattle.vote.specs.Decide.{longest, invalid, Tally}
+use Rattle.vote.specs.declared.Tally.{Tally}
+use Rattle.vote.specs.Decide.{longest, invalid}
 use Rattle.whole.specs.Whole.{longest_output, Voted, whole}
 use Rattle.known_answers.specs.Calls.{Row, example}
 

@@ -13,31 +13,41 @@ fn is_blank(byte: u8) -> bool
     matches!(byte, b'\t' | b' ')
 }
 
-// The first place whose byte is a blank, or is none, as asked; the length where there is no such place: a word ends
-// there, as the definition `seek` has it.
-fn seek(text: &[u8], from: usize, blank: bool) -> usize
-    requires { from ≤ length text.now }
-    ensures place { result ≡ seek text.now from blank }
-    ensures within { (from ≤ result) × (result ≤ length text.now) }
-{
-    for at in from..text.len() {
-        if is_blank(text[at]) == blank {
-            return at;
-        }
-    }
-    text.len()
+// A text of which the words from a place on are left to read.
+#[derive(Clone, Copy)]
+pub struct Rest<'a> {
+    pub text: &'a [u8],
+    pub from: usize,
+    ghost within: { from ≤ length text.now },
 }
 
-// Where the next word lies.
-#[tactic(auto, unfolding(crate::specs::Text::next_word))]
-pub fn next(text: &[u8], from: usize) -> Word
-    requires { from ≤ length text.now }
-    ensures place { result ≡ next_word text.now from }
-    ensures within { (result.start ≤ result.end) × (result.end ≤ length text.now) }
-{
-    let start = seek(text, from, false);
-    let end = seek(text, start, true);
-    Word { start, end }
+impl<'a> Rest<'a> {
+    // The first place whose byte is a blank, or is none, as asked; the length where there is no such place: a word
+    // ends there, as the definition `seek` has it. `position` on the rest takes half as many instructions again (238, not
+    // 156, for the words of a line), `find` on the places a third.
+    fn seek(self, blank: bool) -> usize
+        ensures place { result ≡ seek self.entry.text.now self.entry.from blank }
+        ensures within { (self.entry.from ≤ result) × (result ≤ length self.entry.text.now) }
+    {
+        for at in self.from..self.text.len() {
+            if is_blank(self.text[at]) == blank {
+                return at;
+            }
+        }
+        self.text.len()
+    }
+
+    // Where the next word lies, and what is left after it.
+    #[tactic(auto, unfolding(crate::specs::Text::next_word))]
+    pub fn next(self) -> (Word, Rest<'a>)
+        ensures place { result.0 ≡ next_word self.entry.text.now self.entry.from }
+        ensures rest { (result.1.text.now ≡ self.entry.text.now) × (result.1.from ≡ result.0.end) }
+    {
+        let text = self.text;
+        let start = self.seek(false);
+        let end = Rest { text, from: start }.seek(true);
+        (Word { start, end }, Rest { text, from: end })
+    }
 }
 
 // The bytes of a word, as far as they lie in the text.

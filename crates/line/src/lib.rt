@@ -10,6 +10,7 @@ ghost use Rattle.line.specs.Line.{operation_of, number_at, request, counted, ope
 ghost use Rattle.line.specs.Line.{statement, read_text, read_line};
 
 use alike::same;
+use finding::Rest;
 pub use finding::word_bytes;
 use request::has_count;
 
@@ -69,52 +70,45 @@ fn number_at(text: &[u8], word: Word) -> Result<u32, BadLine>
     number::of(word_bytes(text, word)).ok_or(BadLine::Number(word))
 }
 
-// The request, where no word is left.
-#[tactic(auto, unfolding(crate::specs::Line::request))]
-fn request(
-    text: &[u8],
-    from: usize,
-    operation: u32,
-    argument: u32,
-    count: u32,
-) -> Result<Asked, BadLine>
-    requires { from ≤ length text.now }
-    ensures { result ≡ request text.now from operation argument count }
-{
-    let word = finding::next(text, from);
-    if word.start != text.len() {
-        return Err(BadLine::TrailingText(word));
+impl Rest<'_> {
+    // The request, where no word is left.
+    #[tactic(auto, unfolding(crate::specs::Line::request))]
+    fn request(self, operation: u32, argument: u32, count: u32) -> Result<Asked, BadLine>
+        ensures { result ≡ request self.entry.text.now self.entry.from operation argument count }
+    {
+        let (word, _) = self.next();
+        if word.start != self.text.len() {
+            return Err(BadLine::TrailingText(word));
+        }
+        Ok(Asked {
+            operation,
+            argument,
+            count,
+        })
     }
-    Ok(Asked {
-        operation,
-        argument,
-        count,
-    })
-}
 
-// The second number.
-#[tactic(auto, unfolding(crate::specs::Line::counted))]
-fn counted(text: &[u8], from: usize, operation: u32, argument: u32) -> Result<Asked, BadLine>
-    requires { from ≤ length text.now }
-    ensures { result ≡ counted text.now from operation argument }
-{
-    let word = finding::next(text, from);
-    let count = number_at(text, word)?;
-    request(text, word.end, operation, argument, count)
-}
-
-// The numbers after the operation's name.
-#[tactic(auto, unfolding(crate::specs::Line::operands))]
-fn operands(text: &[u8], from: usize, operation: u32) -> Result<Asked, BadLine>
-    requires { from ≤ length text.now }
-    ensures { result ≡ operands text.now from operation }
-{
-    let word = finding::next(text, from);
-    let argument = number_at(text, word)?;
-    if has_count(operation) {
-        return counted(text, word.end, operation, argument);
+    // The second number.
+    #[tactic(auto, unfolding(crate::specs::Line::counted))]
+    fn counted(self, operation: u32, argument: u32) -> Result<Asked, BadLine>
+        ensures { result ≡ counted self.entry.text.now self.entry.from operation argument }
+    {
+        let (word, rest) = self.next();
+        let count = number_at(self.text, word)?;
+        rest.request(operation, argument, count)
     }
-    request(text, word.end, operation, argument, 0)
+
+    // The numbers after the operation's name.
+    #[tactic(auto, unfolding(crate::specs::Line::operands))]
+    fn operands(self, operation: u32) -> Result<Asked, BadLine>
+        ensures { result ≡ operands self.entry.text.now self.entry.from operation }
+    {
+        let (word, rest) = self.next();
+        let argument = number_at(self.text, word)?;
+        if has_count(operation) {
+            return rest.counted(operation, argument);
+        }
+        rest.request(operation, argument, 0)
+    }
 }
 
 // A line without its comment.
@@ -122,12 +116,12 @@ fn operands(text: &[u8], from: usize, operation: u32) -> Result<Asked, BadLine>
 fn statement(text: &[u8]) -> Read
     ensures { result ≡ statement text.now }
 {
-    let word = finding::next(text, 0);
+    let (word, rest) = Rest { text, from: 0 }.next();
     if word.start == text.len() {
         return Ok(None);
     }
     let operation = operation_of(word_bytes(text, word)).ok_or(BadLine::Operation(word))?;
-    let asked = operands(text, word.end, operation)?;
+    let asked = rest.operands(operation)?;
     Ok(Some(asked))
 }
 

@@ -3,7 +3,7 @@
 
 ghost use Rattle.std.specs.Prelude.{◌+◌, ◌-◌, ◌≡◌, ◌≤◌, length};
 ghost use Rattle.decimal.specs.Decimal.{width, decimal};
-ghost use Rattle.messages.specs.Put.{Put, SameBuffer};
+ghost use Rattle.messages.specs.Put.{Put, IsPut};
 ghost use Rattle.messages.specs.Message.{found, said, expected, bad_message, message_within};
 ghost use Rattle.messages.specs.Message.{expected_room, found_room, message_room};
 
@@ -33,7 +33,8 @@ fn expected(bad: BadLine) -> &'static [u8]
     }
 }
 
-// A buffer, and the place in it where the next text is put.
+// A buffer, and the place in it where the next text is put. Not `Display`: a formatter would stand between it and the
+// buffer. Texts are bytes, since a word of a line may be no text.
 #[derive(Drop)]
 struct Writer<'a> {
     out: &'a mut [u8],
@@ -43,8 +44,7 @@ struct Writer<'a> {
 impl<'a> Writer<'a> {
     fn text(&mut self, text: &[u8])
         requires { self.old.at + length text.now ≤ length self.old.out.now }
-        ensures same { SameBuffer self.old.out self.new.out }
-        ensures put { Put self.old.out.now self.old.at text.now self.new.at self.new.out.now }
+        ensures put { IsPut self.old self.new text.now }
     {
         let end = self.at + text.len();
         self.out[self.at..end].copy_from_slice(text);
@@ -53,8 +53,7 @@ impl<'a> Writer<'a> {
 
     fn number(&mut self, n: u64)
         requires { self.old.at + width ≤ length self.old.out.now }
-        ensures same { SameBuffer self.old.out self.new.out }
-        ensures put { Put self.old.out.now self.old.at (decimal n) self.new.at self.new.out.now }
+        ensures put { IsPut self.old self.new (decimal n) }
         ensures within { self.new.at ≤ self.old.at + width }
     {
         self.at = decimal::put(self.out, self.at, n);
@@ -64,8 +63,7 @@ impl<'a> Writer<'a> {
     #[tactic(auto, using(crate::proofs::Putting::found_none), unfolding(alike::specs::Text::bytes))]
     fn found(&mut self, word: &[u8])
         requires { self.old.at + found_room ≤ length self.old.out.now }
-        ensures same { SameBuffer self.old.out self.new.out }
-        ensures put { Put self.old.out.now self.old.at (found word.now) self.new.at self.new.out.now }
+        ensures put { IsPut self.old self.new (found word.now) }
         ensures within { self.new.at ≤ self.old.at + found_room }
     {
         if word.is_empty() {
@@ -81,8 +79,7 @@ impl<'a> Writer<'a> {
     fn say(&mut self, number: u64, text: &[u8])
         requires text_short { length text.now ≤ expected_room }
         requires room { self.old.at + message_room ≤ length self.old.out.now }
-        ensures same { SameBuffer self.old.out self.new.out }
-        ensures put { Put self.old.out.now self.old.at (said number text.now) self.new.at self.new.out.now }
+        ensures put { IsPut self.old self.new (said number text.now) }
         ensures within { self.new.at + found_room ≤ self.old.at + message_room }
     {
         self.text(b"line ");
@@ -93,8 +90,7 @@ impl<'a> Writer<'a> {
     // What a bad line should have been and what it is.
     fn bad(&mut self, number: u64, line: &[u8], bad: BadLine)
         requires { self.old.at + message_room ≤ length self.old.out.now }
-        ensures same { SameBuffer self.old.out self.new.out }
-        ensures put { Put self.old.out.now self.old.at (bad_message number line.now bad) self.new.at self.new.out.now }
+        ensures put { IsPut self.old self.new (bad_message number line.now bad) }
         ensures within { self.new.at ≤ self.old.at + message_room }
     {
         self.say(number, expected(bad));
@@ -108,7 +104,8 @@ impl<'a> Writer<'a> {
 }
 
 // Writes at a place what a bad line should have been and what it is, of a good line nothing, and answers the place
-// after it. Where there may be no room for a message, nothing is written.
+// after it. Where there may be no room for a message, nothing is written. Buffer and place are two, as its clauses name
+// them.
 pub fn put(line: &[u8], read: Read, number: u64, out: &mut [u8], at: usize) -> usize
     ensures within { result ≤ at + message_room }
     ensures put { let text = message_within (length out.old - at) number line.now read in

@@ -7,7 +7,7 @@ use mathlib.Core.Bool.{false}
 use mathlib.Core.List.{List, [], ◌∷◌, ◌++◌, append_assoc, append-nil, flatten}
 use lib.ListN.{length, take, drop, length-append, length-take, length-drop, take-append-drop}
 use lib.Seq.{take-append-le, drop-append-le}
-use Rattle.writing.proofs.Parts.{no_bytes}
+use Rattle.std.proofs.lemmas.List.{nil_from_length}
 use Rattle.request.specs.Parse.{request_size}
 use Rattle.rules.specs.Serve.{lent}
 use Rattle.rules.specs.Call.{State, state_after}
@@ -32,7 +32,7 @@ module _ (b : List ℕ) (j : ℕ) where
       → let x = replay [] k s number a in
       replay [] (k + j) s number (a ++ b) ≡ behind x.text (replay [] j x.state x.next b)
   unfolding replay
-  replay_append zero a s number e = rw (no_bytes a e, zero-add)
+  replay_append zero a s number e = rw (nil_from_length a e, zero-add)
   replay_append (suc k) a s number e =
       let more = replay_append k (drop request_size a) (state_after s (take request_size a) (lent [])) (number + 1) (fewer k a e) in
       rw (suc-add, first k a e, later k a e, more) (behind_both (line_for s (take request_size a) [] number) _ _)

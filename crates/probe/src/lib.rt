@@ -16,7 +16,8 @@ pub struct Found {
     pub generator: Generator,
 }
 
-// The slot that the draws choose, or the next clear one above the last slot tested where all of them meet set slots.
+// The slot that the draws choose, or the next clear one above the last slot tested where all of them meet set slots;
+// `slots` where all are set, as the definition `probe` has it, and so no Option.
 pub fn find(bitmap: &[u8], slots: usize, start: Generator) -> Found
     ensures { result ≡ probe bitmap.now slots start 0 draws }
 {

@@ -1,6 +1,6 @@
 // What a program's arguments ask for: its work, its help text or its version, or nothing that it knows; and whether the
 // launcher of programs/launch.c wants its status.
-ghost use Rattle.std.specs.Prelude.{◌≡◌, ◌<◌, ◌≤◌, length};
+ghost use Rattle.std.specs.Prelude.{◌≡◌, ◌<◌, ◌≤◌, length, ℕ, List};
 ghost use Rattle.program.specs.Asked.{alone_of, choice_of, asked_of};
 
 use std::env::{Env, FillError};
@@ -82,8 +82,10 @@ pub fn word<R: Env>(rt: &R, word: usize, into: &mut [u8]) -> usize
 const WORD: usize = 16;
 
 impl Asked {
-    // What the program's own words ask for.
-    pub(crate) fn of<R: Env>(rt: &R) -> Asked {
+    // What the program's own words ask for. Which these are, the system decides.
+    pub(crate) fn of<R: Env>(rt: &R) -> Asked
+        ensures { (words : ℕ) × (one : List ℕ) × (two : List ℕ) × (result ≡ asked_of words one two) }
+    {
         let mut first = [0u8; WORD];
         let mut second = [0u8; WORD];
         let first_len = word(rt, 1, &mut first);

@@ -7,12 +7,15 @@
 
 pub mod arguments;
 
-ghost use Rattle.std.specs.Prelude.{◌≡◌, cond, eqb, length, take, IfOk, IsOk, MatchResult, OnOk, ◌≤◌, ◌<◌, ℕ, IsErr};
+ghost use Rattle.std.specs.Prelude.{◌≡◌, cond, eqb, length, take, IfOk, IsOk, MatchResult, OnOk, ◌≤◌, ◌<◌, ℕ, IsErr, Result};
 ghost use Rattle.std.specs.Fn.{FnOnceReturnsAtMut};
 ghost use Rattle.std.specs.Io.KnownBytes.{Appends, Consumes, IsAtEnd, Keeps};
 ghost use Rattle.std.specs.Process.{exit_status};
-ghost use Rattle.program.specs.Status.{status_number};
+ghost use Rattle.program.specs.Status.{status_number, status_of};
+ghost use Rattle.program.specs.declared.Status.{Status};
 ghost use Rattle.program.specs.declared.Status.TheVariants.{Done};
+ghost use Rattle.program.specs.declared.Failed.{Failed};
+ghost use Rattle.program.specs.declared.arguments.Asked.{Asked};
 ghost use Rattle.program.specs.declared.arguments.Choice.TheVariants.{Run, Help, Version, Unknown};
 
 use arguments::{Asked, Choice};
@@ -74,7 +77,8 @@ fn fail<E: Write>(errors: &mut E, place: &[u8], error: io::Error) -> Failed {
     Failed
 }
 
-// Reads once, or says that `place` failed. How many bytes came, and which, the reader decides.
+// Reads once, or says that `place` failed. How many bytes came, and which, the reader decides. A place is any bytes and
+// no `&str`, as it was promised.
 pub fn read<R: Read, E: Write>(
     reader: &mut R,
     errors: &mut E,
@@ -189,7 +193,8 @@ where
     Ok(Status::Done)
 }
 
-// Runs a program: does what its arguments ask for, and ends with the status of that.
+// Runs a program: does what its arguments ask for, and ends with the status of that. What they ask for, and whether the
+// launcher wants the status, the system decides.
 pub fn run<V: Env, R: Read, W: Write, E: Write, F>(
     rt: &V,
     about: &About<'_>,
@@ -199,10 +204,17 @@ pub fn run<V: Env, R: Read, W: Write, E: Write, F>(
 where
     F: FnOnce(&mut Streams<R, W, E>) -> Result<Status, Failed>,
     requires { F.IsAlwaysCallable work }
-    ensures { exit_status result ≤ 2 }
+    ensures { (asked : Asked) × (came : Result Status Failed)
+        × (exit_status result ≡ cond asked.launched (status_number (status_of came)) 0)
+        × (asked.choice ≡ Run → FnOnceReturnsAtMut F.FnOnce work streams.old came streams.new)
+        × (asked.choice ≡ Help → IfOk came (λ status. (status ≡ Done)
+        × Appends (W.contents streams.old.output) (W.contents streams.new.output) about.now.help.now))
+        × (asked.choice ≡ Version → IfOk came (λ status. (status ≡ Done)
+        × Appends (W.contents streams.old.output) (W.contents streams.new.output) about.now.version.now))
+        × ((word : ℕ) → asked.choice ≡ Unknown word → IsErr came) }
 {
     let asked = Asked::of(rt);
-    let choice = asked.choice;
-    let status = perform(rt, choice, about, streams, work).unwrap_or(Status::Failed);
+    let came = perform(rt, asked.choice, about, streams, work);
+    let status = came.unwrap_or(Status::Failed);
     finish(asked.launched, u8::from(status))
 }

@@ -12,7 +12,8 @@ pub const SHOWN: usize = 24;
 // Room for any word between quotes, and dots after them.
 pub const ROOM: usize = 1 + SHOWN + 4;
 
-// The front of an array; behind it are zeros. (Fixed memory: a text of its own length would be on the heap.)
+// The front of an array; behind it are zeros. Its fields are public, since the clauses of `quoted` name them. (Fixed
+// memory: a text of its own length would be on the heap.)
 #[derive(Clone, Copy)]
 pub struct Shown {
     pub text: [u8; ROOM],

@@ -10,7 +10,7 @@ use lib.Seq.{take_all, take_at, drop_at}
 use Rattle.std.proofs.lemmas.Grind.{common_steps}
 use borrow.Author.Tests.{le-leb, lt-ltb}
 use Rattle.writing.specs.Overwrite.{overwrite}
-use Rattle.writing.proofs.Parts.{no_bytes}
+use Rattle.std.proofs.lemmas.List.{nil_from_length}
 use Rattle.request.specs.Parse.{request_size}
 use Rattle.replay.specs.Line.{line_room, line_for}
 use Rattle.rules.specs.Serve.{lent}
@@ -32,7 +32,7 @@ module _ (request more : List ℕ) (size : length request ≡ min request_size (
   first_of : take request_size (request ++ more) ≡ request
   first_of = elim (dec_lt (length request) request_size) [
     | yes h ↦
-        let none : more ≡ [] = no_bytes more (omega arith) in
+        let none : more ≡ [] = nil_from_length more (omega arith) in
         rw (none, append-nil) (take_all request_size request (omega arith))
     | no h ↦ take_at request more request_size (omega arith)
   ]
@@ -40,7 +40,7 @@ module _ (request more : List ℕ) (size : length request ≡ min request_size (
   rest_of : drop request_size (request ++ more) ≡ more
   rest_of = elim (dec_lt (length request) request_size) [
     | yes h ↦
-        let none : more ≡ [] = no_bytes more (omega arith) in
+        let none : more ≡ [] = nil_from_length more (omega arith) in
         let few : length request ≤ request_size = omega arith in
         rw (none, append-nil) (drop_of_length-le request few)
     | no h ↦ drop_at request more request_size (omega arith)

@@ -25,6 +25,7 @@ pub enum Request {
     Read(u32, u32),
 }
 
+// The operation with a number, which is the number that a request has, and the place in the definition `operations`.
 fn of_operation(code: u32, argument: u32, count: u32) -> Option<Request>
     ensures { result ≡ operation code argument count }
 {

@@ -18,7 +18,7 @@ const MEDIUM: usize = 256;
 
 const LARGE: usize = 1024;
 
-// The bytes of a slot; 0 past the last class.
+// The bytes of a slot; 0 past the last class, as the definition `usual_size` has it, and so no Option.
 pub fn usual_size(class: usize) -> usize
     ensures { result ≡ usual_size class }
 {

@@ -34,6 +34,7 @@ impl Sought<'_> {
             result ≡ ltb (first test 0 block) block }
     {
         let mut found = false;
+        // One index serves the bytes and the pattern.
         for i in 0..block {
             found |= self.equal == (bytes[at + i] == self.pattern[place + i]);
         }

@@ -7,6 +7,7 @@ use Rattle.answer.specs.declared.Refusal.{Refusal}
 use Rattle.answer.specs.declared.Refusal.TheVariants.{InvalidVote, NoAgreement}
 use Rattle.answer.specs.Reply.{number_of}
 use Rattle.vote.specs.declared.Places.{Places}
+use Rattle.vote.specs.declared.Tally.{Tally}
 use Rattle.elect.specs.declared.Elected.{Elected}
 
 -- ---- limits
@@ -107,14 +108,7 @@ step outputs still p room =
 
 -- ---- what the caller sees
 
--- the paper's answer: replica is the number of the lowest-numbered winner
-pub record Tally : Type 0 where
-  pub number : ℕ
-  pub mask : ℕ
-  pub value : ℕ
-  pub replica : ℕ
-
--- that of winners
+-- the paper's answer of winners: replica is the number of the lowest-numbered of them
 abbrev pub agreed_by : List Bool → Tally
 agreed_by row = record { number = 0; mask = mask_of row; value = votes row; replica = lowest_of row }
 

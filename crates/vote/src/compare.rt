@@ -2,10 +2,11 @@
 ghost use Rattle.std.specs.Prelude.{◌≡◌, ◌+◌, ◌*◌, ◌<◌, ◌≤◌, false, length, get_or};
 ghost use Rattle.search.specs.Tabulate.{tabulate};
 ghost use Rattle.vote.specs.Decide.{block_in, agree, agreements};
-ghost use Rattle.elect.specs.Leader.{row_of};
+ghost use Rattle.elect.specs.Leader.{most, row_of};
 ghost use Rattle.vote.specs.Groups.{Placed, group_of, groups_of, together};
 
 use crate::Places;
+use elect::{MOST, Row, Table};
 
 // Those who vote, a bit each, on the outputs of all replicas. Methods take it by value: by reference, sixteen replicas
 // that all differ took 1.5 times the instructions.
@@ -53,6 +54,7 @@ impl<'a> Voters<'a> {
         requires { i < self.places.replicas }
         ensures { let v = self.entry in result ≡ group_of (row_of v.voting) (block_in v.outputs.now v.places) i }
     {
+        // `find` was not proved: what it says of the closure's calls has to become `first`.
         for r in 0..i {
             if self.agree(r, i) {
                 return r;
@@ -64,7 +66,7 @@ impl<'a> Voters<'a> {
     // Two that vote agree where their groups are one, and a replica is compared with earlier ones only until one
     // agrees. A replica that was not looked at yet is its own group.
     #[tactic(auto, using(crate::proofs::Comparing::groups_none, crate::proofs::Comparing::group_le, crate::proofs::Comparing::groups_all))]
-    fn groups(self) -> [u8; 16]
+    fn groups(self) -> [u8; MOST]
         ensures { let v = self.entry in result ≡ groups_of (row_of v.voting) (block_in v.outputs.now v.places) }
     {
         let mut out = [0u8, 1, 2, 3, 4, 5, 6, 7, 8, 9, 10, 11, 12, 13, 14, 15];
@@ -78,13 +80,13 @@ impl<'a> Voters<'a> {
 
     // `map` makes no vector: three blocks of 16 bytes took 3.3 times the instructions.
     #[tactic(auto, using(crate::proofs::Comparing::row_done, crate::proofs::Comparing::row_out))]
-    fn row(self, groups: [u8; 16], i: usize) -> [bool; 16]
+    fn row(self, groups: [u8; MOST], i: usize) -> Row
         requires { i < self.places.replicas }
-        ensures { result ≡ tabulate (together (row_of self.entry.voting) groups i) 0 16 }
+        ensures { result ≡ tabulate (together (row_of self.entry.voting) groups i) 0 most }
     {
-        let mut out = [false; 16];
+        let mut out = [false; MOST];
         if self.votes(i) {
-            for j in 0..16 {
+            for j in 0..MOST {
                 out[j] = groups[i] == groups[j];
             }
         }
@@ -93,11 +95,11 @@ impl<'a> Voters<'a> {
 
     // The table of which two replicas agree.
     #[tactic(auto, using(crate::proofs::Comparing::rows_all))]
-    pub fn agreements(self) -> [[bool; 16]; 16]
+    pub fn agreements(self) -> Table
         ensures { let v = self.entry in result ≡ agreements (row_of v.voting) (block_in v.outputs.now v.places) }
     {
         let groups = self.groups();
-        let mut out = [[false; 16]; 16];
+        let mut out = [[false; MOST]; MOST];
         for i in 0..self.places.replicas {
             out[i] = self.row(groups, i);
         }

@@ -6,7 +6,7 @@ mod compare;
 ghost use Rattle.std.specs.Prelude.{◌≡◌, ◌≤◌, length};
 ghost use Rattle.elect.specs.Leader.{mask_of, row_of};
 ghost use Rattle.vote.specs.Decide.{first_of, block_in, invalid, count, side_by_side, decide};
-ghost use Rattle.vote.specs.Decide.{misplaced, step, tally, tally_of, output_after};
+ghost use Rattle.vote.specs.Decide.{misplaced, step, tally, tally_of, refused_with, output_after};
 
 use answer::Refusal;
 use compare::Voters;
@@ -78,7 +78,48 @@ fn elected(voters: Voters, output: &mut [u8]) -> Result<Elected, Refusal>
     Ok(winner)
 }
 
-// Replicas lie one after another in `blocks`, a block each. The winning block goes to the front of `output`.
+// The answer of a vote in numbers: 0, the mask of those who win, how many they are and the lowest-numbered of them; or the
+// refusal's number, and the block in which a longer vote found no agreement.
+#[derive(Clone, Copy)]
+pub struct Tally {
+    pub number: u32,
+    pub mask: u32,
+    pub value: u32,
+    pub replica: u32,
+}
+
+impl Tally {
+    // A vote that is refused names nobody.
+    pub fn refused(refusal: Refusal, value: u32) -> Tally
+        ensures { result ≡ refused_with refusal value }
+    {
+        Tally {
+            number: u32::from(refusal),
+            mask: 0,
+            value,
+            replica: 0,
+        }
+    }
+}
+
+impl From<Result<Elected, Refusal>> for Tally {
+    ghost from_gives = { λ verdict tally. tally ≡ tally_of verdict };
+
+    fn from(verdict: Result<Elected, Refusal>) -> Tally {
+        match verdict {
+            Ok(elected) => Tally {
+                number: 0,
+                mask: elected.mask,
+                value: elected.count,
+                replica: elected.replica,
+            },
+            Err(refusal) => Tally::refused(refusal, 0),
+        }
+    }
+}
+
+// Replicas lie one after another in `blocks`, a block each. The winning block goes to the front of `output`. The numbers
+// come apart, as C passes them.
 #[tactic(auto, unfolding(crate::specs::Decide::decide), using(crate::proofs::Comparing::first_row, crate::proofs::Decision::placed))]
 pub fn vote(
     blocks: &[u8],

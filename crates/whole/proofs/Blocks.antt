@@ -17,9 +17,10 @@ use Rattle.answer.proofs.Numbers.{refusal_number}
 use Rattle.elect.specs.Leader.{most, mask_of, row_of}
 use Rattle.elect.proofs.Rows.{row_mask, mask_lt}
 use Rattle.vote.specs.declared.Places.{Places}
+use Rattle.vote.specs.declared.Tally.{Tally}
 use Rattle.std.specs.Prelude.{Result, Ok, Err}
 use Rattle.elect.specs.declared.Elected.{Elected}
-use Rattle.vote.specs.Decide.{Decision, longest, first_of, block_in, count, won, lost, step, Tally, agreed_by, refused_with, tally, tally_of, output_after}
+use Rattle.vote.specs.Decide.{Decision, longest, first_of, block_in, count, won, lost, step, agreed_by, refused_with, tally, tally_of, output_after}
 use Rattle.vote.proofs.Comparing.{first_row}
 use Rattle.vote.proofs.Decision.{Allowed, Fitting, first_only, step_counts, voters_only}
 use Rattle.vote.proofs.Winning.{WonBy, count_cases, sharing_votes}

@@ -11,7 +11,8 @@ use Rattle.search.proofs.Tabulate.{tabulate_at, tabulate_same}
 use Rattle.alike.specs.Alike.{alike}
 use Rattle.alike.proofs.Comparing.{alike_parts}
 use Rattle.writing.specs.Overwrite.{overwrite}
-use Rattle.writing.proofs.Parts.{drop_take, part_here, part_before}
+use Rattle.std.proofs.lemmas.List.{drop-take}
+use Rattle.writing.proofs.Parts.{part_here, part_before}
 use Rattle.numbers.proofs.Cut.{take_min}
 use Rattle.vote.specs.Decide.{longest, first_of, block_in, sharing}
 use Rattle.whole.specs.Whole.{block_at}
@@ -22,8 +23,8 @@ block_read : (xs : List ℕ) (len at : ℕ) → at ≤ len
     → drop at (take (at + longest) (take len xs)) ≡ take (min longest (len - at)) (drop at xs)
 block_read xs len at h =
     let e : at + (len - at) ≡ len = omega arith in
-    let rest : drop at (take len xs) ≡ take (len - at) (drop at xs) = rw e at (drop_take at (len - at) xs) in
-    drop_take at longest (take len xs) ∙ rw (take_min longest (len - at) (drop at xs) refl) (ap (take longest) rest)
+    let rest : drop at (take len xs) ≡ take (len - at) (drop at xs) = rw e at (drop-take at (len - at) xs) in
+    drop-take at longest (take len xs) ∙ rw (take_min longest (len - at) (drop at xs) refl) (ap (take longest) rest)
 
 module _ (outputs : List ℕ) (k len : ℕ) where
   -- those whose output begins as what is written of it, up to a place

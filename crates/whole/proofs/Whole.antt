@@ -15,8 +15,9 @@ use Rattle.writing.specs.Overwrite.{overwrite}
 use Rattle.answer.specs.declared.Refusal.TheVariants.{InvalidOutputs}
 use Rattle.elect.specs.Leader.{most, votes, row_of}
 use Rattle.elect.proofs.Rows.{votes_two, row_mask}
+use Rattle.vote.specs.declared.Tally.{Tally}
 use Rattle.vote.specs.Decide.{longest, first_of, block_in, invalid, count, side_by_side, decide}
-use Rattle.vote.specs.Decide.{Tally, agreed_by, refused_with, tally, output_after}
+use Rattle.vote.specs.Decide.{agreed_by, refused_with, tally, output_after}
 use Rattle.vote.proofs.Decision.{Allowed, allowed, not_invalid, first_only, output_end}
 use Rattle.vote.proofs.Winning.{count_cases, sharing_votes}
 use Rattle.whole.specs.Whole.{longest_output, blocks, block_at, Voted, through, whole}

@@ -3,7 +3,8 @@ use Rattle.std.specs.Prelude.{ℕ, zero, suc, ◌+◌, ◌-◌, ◌*◌, ◌/◌
 use Rattle.writing.specs.Overwrite.{overwrite}
 use Rattle.answer.specs.declared.Refusal.TheVariants.{NoAgreement, InvalidOutputs}
 use Rattle.vote.specs.declared.Places.{Places}
-use Rattle.vote.specs.Decide.{longest, first_of, block_in, invalid, count, won, lost, Tally, agreed_by, refused_with}
+use Rattle.vote.specs.declared.Tally.{Tally}
+use Rattle.vote.specs.Decide.{longest, first_of, block_in, invalid, count, won, lost, agreed_by, refused_with}
 use Rattle.elect.specs.declared.Elected.{Elected}
 use Rattle.whole.specs.declared.Failure.{Failure}
 use Rattle.whole.specs.declared.Failure.TheVariants.{Split, Refused}

@@ -6,7 +6,7 @@ ghost use Rattle.vote.specs.Decide.{first_of, invalid};
 ghost use Rattle.whole.specs.Whole.{longest_output, blocks, block_at, through, whole, answer_of};
 
 use answer::Refusal;
-use vote::{Elected, LONGEST_BLOCK, Places};
+use vote::{Elected, LONGEST_BLOCK, Places, Tally};
 
 const LONGEST_OUTPUT: usize = 1048576;
 
@@ -15,6 +15,18 @@ pub enum Failure {
     // No two of those who are still in agree in this block, counted from 0.
     Split { block: u32 },
     Refused(Refusal),
+}
+
+// What a whole vote answers in numbers: of no agreement the value is the block. A function, since neither of the types
+// is this crate's own.
+pub fn tally(verdict: Result<Elected, Failure>) -> Tally
+    ensures { result ≡ answer_of verdict }
+{
+    match verdict {
+        Ok(elected) => Tally::from(Ok(elected)),
+        Err(Failure::Split { block }) => Tally::refused(Refusal::NoAgreement, block),
+        Err(Failure::Refused(refusal)) => Tally::refused(refusal, 0),
+    }
 }
 
 // The block of each output from a place on: the last one may be shorter than the others.
@@ -62,7 +74,7 @@ fn through(
 }
 
 // Outputs of one length lie one after another. What the replicas left at the end share goes to the front of `output`;
-// where no two agree in a block, the blocks before it do.
+// where no two agree in a block, the blocks before it do. The numbers come apart, as C passes them.
 pub fn vote(
     outputs: &[u8],
     replicas: usize,

@@ -1,30 +1,18 @@
 -- Parts of lists; and those read back after one is written over: the part written, and those before and after it.
 use Prim.Native.Nat.{ℕ, zero, suc, ◌+◌, ◌-◌, ◌≤◌, ◌<◌}
 use mathlib.Core.Path.{◌≡◌, refl, sym, ap, ◌∙◌}
-use mathlib.Core.List.{List, [], ◌∷◌, ◌++◌, append_assoc}
-use native.Mathlib.Nat.{zero-add, suc-add}
+use mathlib.Core.List.{List, ◌++◌, append_assoc}
 use native.Mathlib.Omega.{arith}
 use lib.ListN.{length, take, drop, get_or, replicate, length-drop, take-append-drop, get_or-append}
-use lib.Seq.{take-nil, length-take-le, take_at, take-take, drop_at, drop-drop, get_or-take, get_or-drop}
+use lib.Seq.{length-take-le, take_at, take-take, drop_at, drop-drop, get_or-take, get_or-drop}
 use lib.Seq.{take-append-le, drop-append-le, drop-append_seam, get_or-append-add}
 use Rattle.writing.specs.Overwrite.{overwrite}
-
--- what has no length is empty
-pub no_bytes : (xs : List ℕ) → length xs ≡ 0 → xs ≡ []
-no_bytes [] e = refl
-no_bytes (x ∷ xs) e = absurd (omega arith)
 
 -- of zeros every one is 0
 pub zeros : (n i : ℕ) → ◌≡◌ {A = ℕ} (get_or (replicate n 0) i 0) 0
 zeros zero i = refl
 zeros (suc n) zero = refl
 zeros (suc n) (suc i) = zeros n i
-
--- a part of a front is a part of the whole
-pub drop_take : (n m : ℕ) (xs : List ℕ) → drop n (take (n + m) xs) ≡ take m (drop n xs)
-drop_take zero m xs = rw zero-add
-drop_take (suc n) m [] = rw (take-nil m, take-nil (suc n + m))
-drop_take (suc n) m (x ∷ xs) = rw suc-add (drop_take n m xs)
 
 module _ (xs : List ℕ) (a : ℕ) (ys : List ℕ) (h : a ≤ length xs) where
   -- what lies from the part written on

@@ -3,7 +3,7 @@ use Rattle.std.proofs.Common.{◌≡◌, ⊎_elim, arith}
 use mathlib.Core.List.{append-nil}
 use Rattle.line.specs.Text.{word_bytes}
 use Rattle.messages.specs.Message.{found, found_text}
-use Rattle.messages.proofs.Putting.{two_put}
+use Rattle.messages.proofs.Putting.{put_then}
 use Rattle.messages.proofs.Writer.bad.Goals as goal
 
 pub returns-in-TooLong-clause-put : goal.returns-in-TooLong-clause-put
@@ -20,4 +20,4 @@ returns-in-Operation-clause-put c =
     let f = rw c.word_bytes.ensures.1 at c.found.ensures.put in
     let w : found_text a.line.now a.bad ≡ found (word_bytes a.line.now c.in-Operation.word) =
     ⊎_elim (λ e. rw e) (⊎_elim (λ e. rw e) (λ e. rw e)) c.in-Operation.is in
-    rw w (two_put e f (omega arith))
+    rw w (put_then e f (omega arith))

@@ -1,7 +1,7 @@
 -- The search from `at` has the whole search's answer.
 use Rattle.std.proofs.Common.{◌≡◌}
 use Rattle.line.specs.Text.{seek}
-use Rattle.line.proofs.finding.seek.Given as goal
+use Rattle.line.proofs.finding.Rest.seek.Given as goal
 
 abbrev pub invariant-loop-at : goal.invariant-loop-at
-invariant-loop-at l = seek l.text l.from l.blank ≡ seek l.text l.at l.blank
+invariant-loop-at l = seek l.self.text.now l.self.from l.blank ≡ seek l.self.text.now l.at l.blank

@@ -1,7 +1,7 @@
 -- Each turn's byte is as asked, or the search goes on behind it.
 use Rattle.std.proofs.Common.{◌≡◌, length, sym, ◌∙◌, arith}
 use Rattle.search.proofs.First.{first_found, first_past, first_none}
-use Rattle.line.proofs.finding.seek.Goals as goal
+use Rattle.line.proofs.finding.Rest.seek.Goals as goal
 
 pub returns-then-is_blank-blank-clause-place : goal.returns-then-is_blank-blank-clause-place
 returns-then-is_blank-blank-clause-place c =
@@ -15,5 +15,5 @@ loop-at-preserved c =
 
 pub returns-clause-place : goal.returns-clause-place
 returns-clause-place c =
-    let last : c.loop-at.at ≡ length c.args.text.now = omega arith in
+    let last : c.loop-at.at ≡ length c.args.self.text.now = omega arith in
     sym (rw last at c.loop-at.invariant ∙ first_none _ (omega arith))
