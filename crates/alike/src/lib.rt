@@ -2,12 +2,46 @@
 // and the comparing of lent bytes.
 #![tactic(auto)]
 
-ghost use Rattle.std.specs.Prelude.{◌≡◌};
+ghost use Rattle.std.specs.Prelude.{◌≡◌, ◌<◌, ◌≤◌};
 ghost use Rattle.alike.specs.Alike.{alike};
+
+// Bytes are compared by blocks of this length, fewer ones by shorter blocks.
+const BLOCK: usize = 64;
+
+const SHORT_BLOCK: usize = 16;
+
+// Block by block, and then what is left over. How long a block is, is known, so that it is compared in place: std's
+// `==` of slices is a call wherever the first four bytes are the same.
+#[tactic(auto, using(crate::proofs::Equal::pointwise_alike))]
+fn same_by<const N: usize>(a: &[u8], b: &[u8]) -> bool
+    requires { (0 < N) × (N ≤ 64) }
+    ensures { result ≡ alike a.now b.now }
+{
+    let mut rest = a;
+    let mut other = b;
+    while let (Some((x, more)), Some((y, further))) = (
+        rest.split_first_chunk::<N>(),
+        other.split_first_chunk::<N>(),
+    ) {
+        if x != y {
+            return false;
+        }
+        rest = more;
+        other = further;
+    }
+    rest == other
+}
 
 #[tactic(auto, using(crate::proofs::Equal::pointwise_alike))]
 pub fn same(a: &[u8], b: &[u8]) -> bool
     ensures { result ≡ alike a.now b.now }
 {
-    a == b
+    if a.len() != b.len() || a.len() < SHORT_BLOCK {
+        return a == b;
+    }
+    if a.len() < BLOCK {
+        same_by::<SHORT_BLOCK>(a, b)
+    } else {
+        same_by::<BLOCK>(a, b)
+    }
 }

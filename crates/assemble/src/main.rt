@@ -5,7 +5,7 @@ ghost use Rattle.std.specs.Prelude.{◌≡◌, ◌⊎◌, IfOk};
 ghost use Rattle.program.specs.declared.Status.TheVariants.{Done, BadLines};
 ghost use Rattle.assemble.specs.Status.{status_after};
 
-use program::{About, Failed, Status, Streams};
+use program::{About, Failed, Status, Streams, Work};
 use std::io::{Read, Write};
 use std::process::ExitCode;
 
@@ -87,11 +87,23 @@ fn assemble_input<R: Read, W: Write, E: Write>(
     Ok(status)
 }
 
+// What this program does where it is asked for its work.
+#[derive(Drop)]
+struct Assembling;
+
+impl<R: Read, W: Write, E: Write> Work<Streams<R, W, E>> for Assembling {
+    ghost comes_to = { λ work old result new. IfOk result (λ status. (status ≡ Done) ⊎ (status ≡ BadLines)) };
+
+    fn carry_on(self, streams: &mut Streams<R, W, E>) -> Result<Status, Failed> {
+        assemble_input(streams)
+    }
+}
+
 fn main(rt: HostRuntime) -> ExitCode {
     let mut streams = Streams {
         reader: rt.stdin(),
         output: rt.stdout(),
         errors: rt.stderr(),
     };
-    program::run(&rt, &ABOUT, &mut streams, assemble_input)
+    program::run(&rt, &ABOUT, &mut streams, Assembling)
 }

@@ -1,7 +1,7 @@
 // All lines of an input, one after another, to requests and to messages about bad lines.
 #![tactic(auto)]
 
-ghost use Rattle.std.specs.Prelude.{◌≡◌, true, cond, [], ◌∷◌, ◌+◌, ◌≤◌, length, MatchOption};
+ghost use Rattle.std.specs.Prelude.{◌≡◌, true, cond, [], ◌∷◌, ◌+◌, ◌≤◌, length, MatchOption, IfSome};
 ghost use Rattle.writing.specs.Overwrite.{overwrite};
 ghost use Rattle.request.specs.Parse.{request_size};
 ghost use Rattle.line.specs.Line.{request_of};
@@ -60,10 +60,12 @@ fn put_request(read: Read, out: &mut [u8], at: usize) -> usize
 
 // The first line of a text without its end, and what comes after it; nothing where it has no end.
 fn first_line(text: &[u8]) -> Option<(&[u8], &[u8])>
-    ensures { MatchOption result
+    ensures bytes { MatchOption result
         ((lines text.now ≡ []) × (unended text.now ≡ text.now))
         (λ p. (lines text.now ≡ p.0.now ∷ lines p.1.now) × (unended text.now ≡ unended p.1.now)
         × (length text.now ≡ length p.0.now + (1 + length p.1.now))) }
+    ensures place { IfSome result (λ p. (p.0.ref_ptr ≡ text.entry.ref_ptr)
+        × (p.1.ref_ptr ≡ (text.entry.ref_ptr.0, (1 + length p.0.now) + text.entry.ref_ptr.1))) }
 {
     let end = text.iter().position(|byte| *byte == NEWLINE)?;
     Some((&text[0..end], &text[end + 1..]))

@@ -13,7 +13,7 @@ ghost use Rattle.pieces.specs.Pieces.{ready, rest, replay_all};
 ghost use Rattle.benchrun.specs.Replay.{heap_bytes, metadata_bytes, given, first_number, most_requests, Room};
 
 use pieces::Served;
-use program::{About, Failed, Got, Status, Streams};
+use program::{About, Failed, Got, Status, Streams, Work};
 use std::io::{Read, Write};
 use std::process::ExitCode;
 
@@ -153,11 +153,23 @@ fn serve_input<R: Read, W: Write, E: Write>(
     Ok(Status::Done)
 }
 
+// What this program does where it is asked for its work.
+#[derive(Drop)]
+struct Replaying;
+
+impl<R: Read, W: Write, E: Write> Work<Streams<R, W, E>> for Replaying {
+    ghost comes_to = { λ work old result new. IfOk result (λ status. status ≡ Done) };
+
+    fn carry_on(self, streams: &mut Streams<R, W, E>) -> Result<Status, Failed> {
+        serve_input(streams)
+    }
+}
+
 fn main(rt: HostRuntime) -> ExitCode {
     let mut streams = Streams {
         reader: rt.stdin(),
         output: rt.stdout(),
         errors: rt.stderr(),
     };
-    program::run(&rt, &ABOUT, &mut streams, serve_input)
+    program::run(&rt, &ABOUT, &mut streams, Replaying)
 }

@@ -8,13 +8,13 @@ use lib.Dec.{lit<}
 use Rattle.decimal.specs.Decimal.{width, decimal_in, decimal}
 
 -- a number of one digit
-one_digit : (k n : ℕ) → n < 10 → decimal_in k n ≡ (48 + n) ∷ []
+pub one_digit : (k n : ℕ) → n < 10 → decimal_in k n ≡ (48 + n) ∷ []
 unfolding decimal_in
 one_digit zero n h = refl
 one_digit (suc k) n h = rw (lt-ltb n 10 h, decimal_in)
 
 -- the lowest digit stands after the others
-more_digits : (k n : ℕ) → 9 < n → decimal_in (suc k) n ≡ decimal_in k (n / 10) ++ ((48 + n % 10) ∷ [])
+pub more_digits : (k n : ℕ) → 9 < n → decimal_in (suc k) n ≡ decimal_in k (n / 10) ++ ((48 + n % 10) ∷ [])
 unfolding decimal_in
 more_digits k n h = rw (le-ltb n 10 h, decimal_in)
 

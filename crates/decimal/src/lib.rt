@@ -47,6 +47,7 @@ impl Digits {
     }
 
     fn bytes(&self) -> &[u8]
+        ensures place { result.ref_ptr ≡ (self.entry.ref_ptr.0, (width - length self.now) + self.entry.ref_ptr.1) }
         ensures text { result.now ≡ self.now }
         ensures within { length self.now ≤ width }
     {

@@ -36,13 +36,13 @@ pub fn open(heap: &mut [u8], metadata: &mut [u8], z: u32, w: u32, canary: u32) -
     if seeds.is_unusable() {
         return Err(Refusal::UnusableSeed);
     }
-    canary::fill_slots(heap, layout, canary);
     let mut lent = Heap {
-        bytes: heap,
+        bytes: &mut *heap,
         metadata,
         layout,
     };
     lent.reset(seeds, canary);
+    canary::fill_slots(heap, layout, canary);
     Ok(0)
 }
 

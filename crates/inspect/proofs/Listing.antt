@@ -40,7 +40,7 @@ module _ (test : ℕ → Bool) (n : ℕ) (list₀ : List ℕ) where
         take_min (length list₀) (length all) all {n = min found (length list₀)} (omega (arith, is)) ∙ ap (take (length list₀)) (take-length all) in
         (is, so.wrote ∙ rw (front, size, zero-add))
 
-    listing_end : n ≤ at → (found ≡ length all) × (list ≡ overwrite list₀ 0 (take (length list₀) all))
+    pub listing_end : n ≤ at → (found ≡ length all) × (list ≡ overwrite list₀ 0 (take (length list₀) all))
     unfolding those
     listing_end h = listing_all (rw (sub-eq-zero_of_le h) refl)
 

@@ -55,9 +55,9 @@ fn next_slot(
 impl Heap<'_> {
     // The first hit from an offset on in its region.
     #[tactic(auto, using(metadata::proofs::Stored::part_rises, metadata::proofs::Stored::part_ends, crate::proofs::Region::around))]
-    fn next_in_region(self, at: usize) -> Option<usize>
-        requires { at < length self.bytes.now }
-        ensures { let h = self.entry in
+    fn next_in_region(&self, at: usize) -> Option<usize>
+        requires { at < length self.now.bytes.now }
+        ensures { let h = self.now in
             let end = suc (at / h.layout.region) * h.layout.region in
             result ≡ first_within (is_hit h.layout h.metadata.now h.bytes.now) at end }
     {
@@ -79,8 +79,8 @@ impl Heap<'_> {
     }
 
     // The first hit from an offset on.
-    fn next(self, from: usize) -> Option<usize>
-        ensures { let h = self.entry in
+    fn next(&self, from: usize) -> Option<usize>
+        ensures { let h = self.now in
             result ≡ first_within (is_hit h.layout h.metadata.now h.bytes.now) from (length h.bytes.now) }
     {
         let region = self.layout.region as usize;
@@ -95,8 +95,8 @@ impl Heap<'_> {
 
     // Writes the hits as far as the list goes, and answers how many they are. It counts by itself, since hits past the
     // list's end count too, and each search begins right behind the last hit.
-    fn collect(self, list: &mut [u32]) -> usize
-        ensures { let h = self.entry in
+    fn collect(&self, list: &mut [u32]) -> usize
+        ensures { let h = self.now in
             let found = hits h.layout h.metadata.now h.bytes.now in
             let l = list.old in
             (result ≡ length found) × (list.new ≡ overwrite l 0 (take (length l) found)) }
@@ -114,8 +114,8 @@ impl Heap<'_> {
     }
 
     // Lists the hits, after a look at how many they are: a list that is too short is left as it is.
-    fn list_whole(self, list: &mut [u32]) -> Answer
-        ensures { let h = self.entry in
+    fn list_whole(&self, list: &mut [u32]) -> Answer
+        ensures { let h = self.now in
             let whole = listed_whole list.old (hits h.layout h.metadata.now h.bytes.now) in
             (reply_of result ≡ whole.answer) × (list.new ≡ whole.list) }
     {

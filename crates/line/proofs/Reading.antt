@@ -32,11 +32,11 @@ module _ (line : List ℕ) where
       rw (le-ltb longest_line (length line) h, ← found, sub-zero end)
 
   -- the last byte is a carriage return, or there is none
-  return_last : get_or line (length line - 1) 0 ≡ carriage_return → length line - 1 ≡ trimmed_end line
+  pub return_last : get_or line (length line - 1) 0 ≡ carriage_return → length line - 1 ≡ trimmed_end line
   unfolding trimmed_end
   return_last h = rw (eq-eqb (get_or line (length line - 1) 0) carriage_return h)
 
-  other_last : (get_or line (length line - 1) 0 ≡ carriage_return → ⊥) → length line ≡ trimmed_end line
+  pub other_last : (get_or line (length line - 1) 0 ≡ carriage_return → ⊥) → length line ≡ trimmed_end line
   unfolding trimmed_end
   other_last h = rw (ne_eqb (get_or line (length line - 1) 0) carriage_return h)
 

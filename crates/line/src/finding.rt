@@ -41,6 +41,7 @@ impl<'a> Rest<'a> {
     #[tactic(auto, unfolding(crate::specs::Text::next_word))]
     pub fn next(self) -> (Word, Rest<'a>)
         ensures place { result.0 ≡ next_word self.entry.text.now self.entry.from }
+        ensures within { (result.0.start ≤ result.0.end) × (result.0.end ≤ length self.entry.text.now) }
         ensures rest { (result.1.text.now ≡ self.entry.text.now) × (result.1.from ≡ result.0.end) }
     {
         let text = self.text;

@@ -17,22 +17,6 @@ const FOUND: usize = quoting::ROOM + 1;
 // Room for any message: `line `, its number, what was expected and what is found.
 pub const ROOM: usize = 5 + decimal::WIDTH + EXPECTED + FOUND;
 
-// What a bad line should have been, up to what is found.
-#[tactic(auto, unfolding(crate::specs::Message::expected, alike::specs::Text::bytes))]
-fn expected(bad: BadLine) -> &'static [u8]
-    ensures text { result.now ≡ expected bad }
-    ensures short { length result.now ≤ expected_room }
-{
-    match bad {
-        BadLine::Operation(_) => {
-            b": expected place, free, measure, copy, text, counted or read, found "
-        }
-        BadLine::Number(_) => b": expected a number from 0 to 4294967295, found ",
-        BadLine::TrailingText(_) => b": expected nothing after the numbers, found ",
-        BadLine::TooLong => b": expected at most 255 bytes, found more\n",
-    }
-}
-
 // A buffer, and the place in it where the next text is put. Not `Display`: a formatter would stand between it and the
 // buffer. Texts are bytes, since a word of a line may be no text.
 #[derive(Drop)]
@@ -75,16 +59,32 @@ impl<'a> Writer<'a> {
         self.text(b"\n");
     }
 
-    // A line's number, and a text that is said of it.
-    fn say(&mut self, number: u64, text: &[u8])
-        requires text_short { length text.now ≤ expected_room }
-        requires room { self.old.at + message_room ≤ length self.old.out.now }
-        ensures put { IsPut self.old self.new (said number text.now) }
+    // What a bad line should have been, up to what is found.
+    #[tactic(auto, unfolding(crate::specs::Message::expected, alike::specs::Text::bytes))]
+    fn expected(&mut self, bad: BadLine)
+        requires { self.old.at + expected_room ≤ length self.old.out.now }
+        ensures put { IsPut self.old self.new (expected bad) }
+        ensures within { self.new.at ≤ self.old.at + expected_room }
+    {
+        match bad {
+            BadLine::Operation(_) => {
+                self.text(b": expected place, free, measure, copy, text, counted or read, found ");
+            }
+            BadLine::Number(_) => self.text(b": expected a number from 0 to 4294967295, found "),
+            BadLine::TrailingText(_) => self.text(b": expected nothing after the numbers, found "),
+            BadLine::TooLong => self.text(b": expected at most 255 bytes, found more\n"),
+        }
+    }
+
+    // A line's number, and what it should have been.
+    fn say(&mut self, number: u64, bad: BadLine)
+        requires { self.old.at + message_room ≤ length self.old.out.now }
+        ensures put { IsPut self.old self.new (said number (expected bad)) }
         ensures within { self.new.at + found_room ≤ self.old.at + message_room }
     {
         self.text(b"line ");
         self.number(number);
-        self.text(text);
+        self.expected(bad);
     }
 
     // What a bad line should have been and what it is.
@@ -93,7 +93,7 @@ impl<'a> Writer<'a> {
         ensures put { IsPut self.old self.new (bad_message number line.now bad) }
         ensures within { self.new.at ≤ self.old.at + message_room }
     {
-        self.say(number, expected(bad));
+        self.say(number, bad);
         match bad {
             BadLine::Operation(word) | BadLine::Number(word) | BadLine::TrailingText(word) => {
                 self.found(line::word_bytes(line, word));

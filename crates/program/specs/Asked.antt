@@ -1,5 +1,7 @@
 -- What a program's arguments ask for.
-use Rattle.std.specs.Prelude.{ℕ, ◌+◌, true, false, cond, List, eqb, leb}
+use Rattle.std.specs.Prelude.{ℕ, ◌+◌, true, false, cond, List, eqb, leb, Result, Ok, Err}
+use Rattle.std.specs.declared.env.FillError.{FillError}
+use Rattle.std.specs.declared.env.FillError.TheVariants.{TooLong, NotPresent}
 use Rattle.alike.specs.Alike.{alike}
 use Rattle.alike.specs.Text.{bytes}
 use Rattle.quoting.specs.Quoted.{shown_most}
@@ -28,3 +30,10 @@ asked_of count first second =
 -- more bytes of an argument than are shown: enough to tell that it is longer
 abbrev pub argument_room : ℕ
 argument_room = shown_most + 1
+
+-- how many bytes an argument has of that room, by the answer to a look at it: all where it is longer, and none where
+-- there is no such argument
+abbrev pub held_of : Result ℕ FillError → ℕ
+held_of (Ok got) = got
+held_of (Err TooLong) = argument_room
+held_of (Err NotPresent) = 0

@@ -1,2 +1,3 @@
 pub mod Asked
+pub mod Got
 pub mod Status

@@ -8,9 +8,10 @@
 pub mod arguments;
 
 ghost use Rattle.std.specs.Prelude.{◌≡◌, cond, eqb, length, take, IfOk, IsOk, MatchResult, OnOk, ◌≤◌, ◌<◌, ℕ, IsErr, Result};
-ghost use Rattle.std.specs.Fn.{FnOnceReturnsAtMut};
 ghost use Rattle.std.specs.Io.KnownBytes.{Appends, Consumes, IsAtEnd, Keeps};
 ghost use Rattle.std.specs.Process.{exit_status};
+ghost use Rattle.program.specs.Asked.{argument_room, held_of};
+ghost use Rattle.program.specs.Got.{got_of};
 ghost use Rattle.program.specs.Status.{status_number, status_of};
 ghost use Rattle.program.specs.declared.Status.{Status};
 ghost use Rattle.program.specs.declared.Status.TheVariants.{Done};
@@ -77,6 +78,14 @@ fn fail<E: Write>(errors: &mut E, place: &[u8], error: io::Error) -> Failed {
     Failed
 }
 
+// What the answer to a read comes to: how many bytes came, or that `place` failed, which is said.
+fn told<E: Write>(errors: &mut E, place: &[u8], answer: io::Result<usize>) -> Result<Got, Failed>
+    ensures { result ≡ got_of answer }
+{
+    let count = answer.map_err(|e| fail(errors, place, e))?;
+    Ok(Got { count })
+}
+
 // Reads once, or says that `place` failed. How many bytes came, and which, the reader decides. A place is any bytes and
 // no `&str`, as it was promised.
 pub fn read<R: Read, E: Write>(
@@ -92,8 +101,7 @@ pub fn read<R: Read, E: Write>(
     ensures at_end { IfOk result (λ got. got.count ≡ 0 → 0 < length input.new
         → IsAtEnd (R.remaining reader.new)) }
 {
-    let count = reader.read(input).map_err(|e| fail(errors, place, e))?;
-    Ok(Got { count })
+    told(errors, place, reader.read(input))
 }
 
 // Writes all of a text, or says that `place` failed. Which it is, the writer decides, where there is something to
@@ -116,14 +124,22 @@ pub fn print<W: Write, E: Write>(
 // More bytes of an argument than are shown.
 const ARGUMENT: usize = quoting::SHOWN + 1;
 
+// How many bytes of its buffer an argument has, by the answer to a look at it: all where it is longer.
+fn held(answer: Result<usize, FillError>) -> usize
+    requires { IfOk answer (λ got. got ≤ argument_room) }
+    ensures { (result ≡ held_of answer) × (result ≤ argument_room) }
+{
+    match answer {
+        Ok(got) => got,
+        Err(FillError::TooLong) => ARGUMENT,
+        Err(FillError::NotPresent) => 0,
+    }
+}
+
 // Says that a word of the arguments is unknown: its start, between quotes.
 pub fn refuse<R: Env, E: Write>(rt: &R, errors: &mut E, name: &[u8], word: usize) -> Failed {
     let mut argument = [0u8; ARGUMENT];
-    let len = match rt.arg(word, &mut argument) {
-        Ok(len) => len,
-        Err(FillError::TooLong) => ARGUMENT,
-        Err(FillError::NotPresent) => 0,
-    };
+    let len = held(rt.arg(word, &mut argument));
     let shown = quoting::quoted(&argument[0..len]);
     let _ = errors.write_all(name);
     let _ = errors.write_all(b": unknown argument ");
@@ -157,6 +173,14 @@ pub struct Streams<R, W, E> {
     pub errors: E,
 }
 
+// The work of a program on what it is lent: what it may come to, and what it leaves.
+pub trait Work<S> {
+    ghost comes_to: { Self → S → Result Status Failed → S → Type 0 };
+
+    fn carry_on(self, streams: &mut S) -> Result<Status, Failed>
+        ensures { comes_to self streams.old result streams.new };
+}
+
 // Does what was chosen: the program's work, or one of its texts.
 fn perform<V: Env, R: Read, W: Write, E: Write, F>(
     rt: &V,
@@ -166,9 +190,8 @@ fn perform<V: Env, R: Read, W: Write, E: Write, F>(
     work: F,
 ) -> Result<Status, Failed>
 where
-    F: FnOnce(&mut Streams<R, W, E>) -> Result<Status, Failed>,
-    requires { F.IsAlwaysCallable work }
-    ensures worked { choice ≡ Run → FnOnceReturnsAtMut F.FnOnce work streams.old result streams.new }
+    F: Work<Streams<R, W, E>> + Drop,
+    ensures worked { choice ≡ Run → F.comes_to work streams.old result streams.new }
     ensures help { choice ≡ Help → IfOk result (λ status. (status ≡ Done)
         × Appends (W.contents streams.old.output) (W.contents streams.new.output) about.now.help.now) }
     ensures version { choice ≡ Version → IfOk result (λ status. (status ≡ Done)
@@ -176,7 +199,7 @@ where
     ensures unknown { (word : ℕ) → choice ≡ Unknown word → IsErr result }
 {
     let text = match choice {
-        Choice::Run => return work(streams),
+        Choice::Run => return work.carry_on(streams),
         Choice::Help => about.help,
         Choice::Version => about.version,
         Choice::Unknown(word) => {
@@ -193,8 +216,32 @@ where
     Ok(Status::Done)
 }
 
+// Does what was asked, and ends with the status of that.
+fn carry_out<V: Env, R: Read, W: Write, E: Write, F>(
+    rt: &V,
+    asked: Asked,
+    about: &About<'_>,
+    streams: &mut Streams<R, W, E>,
+    work: F,
+) -> ExitCode
+where
+    F: Work<Streams<R, W, E>> + Drop,
+    ensures { (came : Result Status Failed)
+        × (exit_status result ≡ cond asked.launched (status_number (status_of came)) 0)
+        × (asked.choice ≡ Run → F.comes_to work streams.old came streams.new)
+        × (asked.choice ≡ Help → IfOk came (λ status. (status ≡ Done)
+        × Appends (W.contents streams.old.output) (W.contents streams.new.output) about.now.help.now))
+        × (asked.choice ≡ Version → IfOk came (λ status. (status ≡ Done)
+        × Appends (W.contents streams.old.output) (W.contents streams.new.output) about.now.version.now))
+        × ((word : ℕ) → asked.choice ≡ Unknown word → IsErr came) }
+{
+    let came = perform(rt, asked.choice, about, streams, work);
+    let status = came.unwrap_or(Status::Failed);
+    finish(asked.launched, u8::from(status))
+}
+
 // Runs a program: does what its arguments ask for, and ends with the status of that. What they ask for, and whether the
-// launcher wants the status, the system decides.
+// launcher wants the status, the system decides; of what is asked `carry_out` has the promise.
 pub fn run<V: Env, R: Read, W: Write, E: Write, F>(
     rt: &V,
     about: &About<'_>,
@@ -202,19 +249,15 @@ pub fn run<V: Env, R: Read, W: Write, E: Write, F>(
     work: F,
 ) -> ExitCode
 where
-    F: FnOnce(&mut Streams<R, W, E>) -> Result<Status, Failed>,
-    requires { F.IsAlwaysCallable work }
+    F: Work<Streams<R, W, E>> + Drop,
     ensures { (asked : Asked) × (came : Result Status Failed)
         × (exit_status result ≡ cond asked.launched (status_number (status_of came)) 0)
-        × (asked.choice ≡ Run → FnOnceReturnsAtMut F.FnOnce work streams.old came streams.new)
+        × (asked.choice ≡ Run → F.comes_to work streams.old came streams.new)
         × (asked.choice ≡ Help → IfOk came (λ status. (status ≡ Done)
         × Appends (W.contents streams.old.output) (W.contents streams.new.output) about.now.help.now))
         × (asked.choice ≡ Version → IfOk came (λ status. (status ≡ Done)
         × Appends (W.contents streams.old.output) (W.contents streams.new.output) about.now.version.now))
         × ((word : ℕ) → asked.choice ≡ Unknown word → IsErr came) }
 {
-    let asked = Asked::of(rt);
-    let came = perform(rt, asked.choice, about, streams, work);
-    let status = came.unwrap_or(Status::Failed);
-    finish(asked.launched, u8::from(status))
+    carry_out(rt, Asked::of(rt), about, streams, work)
 }

@@ -52,7 +52,7 @@ module _ (word more : List ℕ) {text after : List ℕ} {end len : ℕ}
     (o : (text ≡ overwrite blank 0 (opened word)) × (end ≡ length (opened word)) × (end ≤ 1 + shown_most))
     (put : (after ≡ overwrite text end more) × (len ≡ end + length more)) where
   -- what closes the quotes is put behind the start
-  closed : length more ≤ 4 → quoted word ≡ opened word ++ more → Quoted word after len
+  pub closed : length more ≤ 4 → quoted word ≡ opened word ++ more → Quoted word after len
   closed few e =
       let front : Wrote blank text 0 (opened word) = record { bytes = o.0; room = omega arith } in
       let back : Wrote text after end more = record { bytes = put.0; room = omega (arith, wrote_length front) } in

@@ -18,14 +18,14 @@ pub const ROOM: usize = 1 + SHOWN + 4;
 pub struct Shown {
     pub text: [u8; ROOM],
     pub len: usize,
-    pub ghost within: { len ≤ quoted_room },
 }
 
 impl Shown {
     pub fn bytes(&self) -> &[u8]
-        ensures { result.now ≡ take self.now.len self.now.text }
+        ensures place { result.ref_ptr ≡ self.entry.ref_ptr }
+        ensures bytes { result.now ≡ take self.now.len self.now.text }
     {
-        &self.text[..self.len]
+        &self.text[..self.len.min(ROOM)]
     }
 
     // Puts a text behind the front.

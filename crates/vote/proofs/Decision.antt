@@ -21,10 +21,10 @@ use Rattle.elect.specs.declared.Elected.{Elected}
 use Rattle.elect.specs.Leader.{most, votes, mask_of, row_of, lowest_of, leader, elected_of}
 use Rattle.elect.proofs.Rows.{digits_none, digits_front}
 use Rattle.elect.proofs.Leading.{leader_le, leader_front, leader_lowest}
-use Rattle.vote.specs.Groups.{Placed, Countable, winner_of}
+use Rattle.vote.specs.Groups.{Placed, Countable, winner_of, elects}
 use Rattle.vote.specs.Decide.{first_of, block_in, agree, row, agreements}
 use Rattle.vote.specs.Decide.{invalid, won, lost, count, side_by_side, misplaced, step, tally, tally_of}
-use Rattle.std.specs.Prelude.{Ok}
+use Rattle.std.specs.Prelude.{Ok, Err}
 use Rattle.vote.proofs.Comparing.{out_agrees, agrees_out, agree_self, agree_same}
 
 -- ---- the table
@@ -75,7 +75,7 @@ module _ (voting : List Bool) (block : ℕ → List ℕ) where
       leader_lowest (agreements voting block) (row_own best few h) (row_same best few)
 
 -- past the replicas nobody votes
-counted : {voting : List Bool} {outputs : List ℕ} {p : Places} → Placed voting outputs p
+pub counted : {voting : List Bool} {outputs : List ℕ} {p : Places} → Placed voting outputs p
     → Countable (agreements voting (block_in outputs p)) p.replicas
 counted {voting} {outputs} {p} a =
     record {
@@ -86,7 +86,7 @@ counted {voting} {outputs} {p} a =
     }
 
 -- so who leads the replicas leads all, and all who agree with it are among them
-elected_wins : {table : List (List Bool)} {k : ℕ} → Countable table k → {w : Elected} → w ≡ elected_of table (min k most)
+pub elected_wins : {table : List (List Bool)} {k : ℕ} → Countable table k → {w : Elected} → w ≡ elected_of table (min k most)
     → (w ≡ winner_of table) × (w.replica < k)
 elected_wins {table} {k} c e =
     let all : min k most ≡ k = omega (arith, c.few) in
@@ -116,7 +116,15 @@ module _ (voting : List Bool) (block : ℕ → List ℕ) {w : Elected} (e : w �
   unfolding count
   count_lost h = rw (lt-ltb _ 2 (rw e at h), count)
 
-  -- with more its block wins
+  -- and nobody is elected
+  pub elects_lost : w.count < 2 → elects (agreements voting block) ≡ Err NoAgreement
+  elects_lost h = rw (lt-ltb _ 2 (rw e at h)) refl
+
+  -- with more it is
+  pub elects_won : 2 ≤ w.count → elects (agreements voting block) ≡ Ok w
+  elects_won h = rw (e, le-ltb _ 2 (rw e at h)) refl
+
+  -- and its block wins
   pub count_won : 2 ≤ w.count → count voting block ≡ won winners (block w.replica)
   unfolding count
   count_won h = rw e (rw (le-ltb _ 2 (rw e at h), count))

@@ -14,7 +14,7 @@ use Rattle.vote.specs.Decide.{misplaced}
 use Rattle.vote.proofs.Comparing.{same_ltb}
 
 -- no bit past the first k is set
-voters_past : (still k : ℕ) → eqb (still / 2 ^ k) 0 ≡ ltb still (2 ^ k)
+pub voters_past : (still k : ℕ) → eqb (still / 2 ^ k) 0 ≡ ltb still (2 ^ k)
 voters_past still k =
     let same = div-lt_iff_lt-mul {k = 2 ^ k} {x = still} {y = 1} (pow_pos k) in
     same_truth _ _
@@ -23,10 +23,10 @@ voters_past still k =
 
 module _ (lent still : ℕ) (p : Places) (room : ℕ) where
   -- a part that ends past its output, and outputs that are not all lent
-  part_past : p.at ≤ p.apart → ltb (p.apart - p.at) p.len ≡ ltb p.apart (p.at + p.len)
+  pub part_past : p.at ≤ p.apart → ltb (p.apart - p.at) p.len ≡ ltb p.apart (p.at + p.len)
   part_past h = same_ltb (p.apart - p.at) p.len p.apart (p.at + p.len) (λ l. omega arith) (λ l. omega arith)
 
-  lent_past : 0 < p.replicas → ltb (lent / p.replicas) p.apart ≡ ltb lent (p.replicas * p.apart)
+  pub lent_past : 0 < p.replicas → ltb (lent / p.replicas) p.apart ≡ ltb lent (p.replicas * p.apart)
   lent_past h =
       let same = div-lt_iff_lt-mul {k = p.replicas} {x = lent} {y = p.apart} h in
       rw mul_comm (same_ltb _ _ _ _ same.0 same.1)

@@ -1,5 +1,8 @@
 -- How comparing and counting go about their work. What the vote promises rests on `Decide` alone.
-use Rattle.std.specs.Prelude.{ℕ, ◌+◌, ◌*◌, ◌≤◌, ◌<◌, ◌≡◌, Bool, false, ◌&&◌, List, [], length, get_or, eqb}
+use Rattle.std.specs.Prelude.{ℕ, ◌+◌, ◌*◌, ◌≤◌, ◌<◌, ◌≡◌, Bool, false, cond, ◌&&◌, List, [], length, get_or, eqb, ltb}
+use Rattle.std.specs.Prelude.{Result, Ok, Err}
+use Rattle.answer.specs.declared.Refusal.{Refusal}
+use Rattle.answer.specs.declared.Refusal.TheVariants.{NoAgreement}
 use Rattle.search.specs.First.{first}
 use Rattle.search.specs.Tabulate.{tabulate}
 use Rattle.vote.specs.declared.Places.{Places}
@@ -38,3 +41,7 @@ winner_of table =
     let best : ℕ = leader table most in
     let row : List Bool = get_or table best [] in
     record { replica = best; count = votes row; mask = mask_of row }
+
+-- the leader wins with two votes or more
+abbrev pub elects : List (List Bool) → Result Elected Refusal
+elects table = let best : Elected = winner_of table in cond (ltb best.count 2) (Err NoAgreement) (Ok best)

@@ -6,7 +6,8 @@ mod compare;
 ghost use Rattle.std.specs.Prelude.{◌≡◌, ◌≤◌, length};
 ghost use Rattle.elect.specs.Leader.{mask_of, row_of};
 ghost use Rattle.vote.specs.Decide.{first_of, block_in, invalid, count, side_by_side, decide};
-ghost use Rattle.vote.specs.Decide.{misplaced, step, tally, tally_of, refused_with, output_after};
+ghost use Rattle.vote.specs.Decide.{misplaced, step, agreements, tally, tally_of, refused_with, output_after};
+ghost use Rattle.vote.specs.Groups.{elects};
 
 use answer::Refusal;
 use compare::Voters;
@@ -65,7 +66,9 @@ fn side_by_side(replicas: usize, block_len: usize) -> Places
 // Voters elect: if two or more share the winner's block, this goes to the front of `output`.
 fn elected(voters: Voters, output: &mut [u8]) -> Result<Elected, Refusal>
     requires { voters.places.len ≤ length output.old }
-    ensures { let v = voters.entry in
+    ensures elects { let v = voters.entry in
+        result ≡ elects (agreements (row_of v.voting) (block_in v.outputs.now v.places)) }
+    ensures counts { let v = voters.entry in
         let d = count (row_of v.voting) (block_in v.outputs.now v.places) in
         (tally_of result ≡ tally d) × (output.new ≡ output_after d output.old) }
 {

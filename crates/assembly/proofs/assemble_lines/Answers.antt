@@ -5,7 +5,7 @@ use Rattle.assembly.proofs.assemble_lines.Goals as goal
 
 pub loop-text-preserved : goal.loop-text-preserved
 loop-text-preserved c =
-    let first = rw (c.in-Some.text-is, c.in-Some.more-is) at c.in-Some.ensures in
+    let first = rw (c.in-Some.text-is, c.in-Some.more-is) at c.in-Some.ensures.bytes in
     let r = c.put_request-requests.ensures in
     let m = c.put-messages.ensures in
     assembled_more c.loop-text.invariant first c.read-read.ensures r.within r.put m.within m.put
@@ -13,7 +13,7 @@ loop-text-preserved c =
 pub returns : goal.returns
 returns c =
     let p = c.loop-text.invariant in
-    let none = c.in_default.ensures in
+    let none = c.in_default.ensures.bytes in
     record {
       turn = (all_done p none, p.within);
       in_bounds = (omega arith, omega arith);

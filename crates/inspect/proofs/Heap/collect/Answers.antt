@@ -20,4 +20,4 @@ loop-hit-preserved c =
     ]
 
 pub returns : goal.returns
-returns c = rw (← c.args.self.fits.heap) (listing_over _ _ _ c.loop-hit.invariant c.in_default.ensures)
+returns c = rw (← c.args.self.now.fits.heap) (listing_over _ _ _ c.loop-hit.invariant c.in_default.ensures)

@@ -7,6 +7,6 @@ use Rattle.inspect.proofs.Heap.list_whole.Goals as goal
 
 pub overflow_cast-result : goal.overflow_cast-result
 overflow_cast-result c =
-    let a = c.args in
-    let few = those_few (is_hit a.self.layout a.self.metadata.now a.self.bytes.now) 0 (heap_length a.self.layout) in
-    omega (arith, c.collect-wanted.ensures.0, c.args.self.fits.small, c.args.self.fits.heap, few)
+    let a = c.args.self.now in
+    let few = those_few (is_hit a.layout a.metadata.now a.bytes.now) 0 (heap_length a.layout) in
+    omega (arith, c.collect-wanted.ensures.0, a.fits.small, a.fits.heap, few)

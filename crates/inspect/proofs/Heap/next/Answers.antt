@@ -13,20 +13,20 @@ use Rattle.inspect.proofs.Heap.next.Goals as goal
 
 pub next_in_region-requires : goal.next_in_region-requires
 next_in_region-requires c =
-    let h = c.args.self in
+    let h = c.args.self.now in
     rw c.max.ensures
     (turn_inside h.layout c.args.from c.loop-class.class h.some h.fits.heap c.loop-class.invariant.reached c.loop-class-test.true)
 
 pub returns-in-Some : goal.returns-in-Some
 returns-in-Some c =
-    let h = c.args.self in
+    let h = c.args.self.now in
     let inv = c.loop-class.invariant in
     turn_found h.layout c.args.from c.loop-class.class h.some h.fits.heap inv.reached c.loop-class-test.true _ inv.passed
     (rw c.max.ensures at c.in-Some.ensures)
 
 pub loop-class-preserved : goal.loop-class-preserved
 loop-class-preserved c =
-    let h = c.args.self in
+    let h = c.args.self.now in
     let inv = c.loop-class.invariant in
     record {
       reached = omega (arith, inv.reached);
@@ -36,7 +36,7 @@ loop-class-preserved c =
 
 pub returns : goal.returns
 returns c =
-    let h = c.args.self in
+    let h = c.args.self.now in
     let inv = c.loop-class.invariant in
     let test = is_hit h.layout h.metadata.now h.bytes.now in
     let all : classes * h.layout.region ≤ c.loop-class.class * h.layout.region = mul-le-mul_right h.layout.region c.loop-class-test.false in
