@@ -5,7 +5,7 @@
 ghost use Rattle.std.specs.Prelude.{◌≡◌, ◌<◌, ◌≤◌};
 ghost use Rattle.alike.specs.Alike.{alike};
 
-// Bytes are compared by blocks of this length, fewer ones by shorter blocks.
+// Whole blocks of this length are compared block by block, and fewer bytes by shorter blocks.
 const BLOCK: usize = 64;
 
 const SHORT_BLOCK: usize = 16;
@@ -36,7 +36,9 @@ fn same_by<const N: usize>(a: &[u8], b: &[u8]) -> bool
 pub fn same(a: &[u8], b: &[u8]) -> bool
     ensures { result ≡ alike a.now b.now }
 {
-    if a.len() != b.len() || a.len() < SHORT_BLOCK {
+    let block = if a.len() < BLOCK { SHORT_BLOCK } else { BLOCK };
+    // Bytes that are no whole blocks would be compared by a call all the same, for what is left over.
+    if a.len() != b.len() || a.is_empty() || a.len() % block != 0 {
         return a == b;
     }
     if a.len() < BLOCK {
